@@ -1,0 +1,3 @@
+mod Table
+mod Linear
+pub mod Bounds

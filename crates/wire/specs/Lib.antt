@@ -1,0 +1,4 @@
+pub mod Kinds
+pub mod Headers
+pub mod Frames
+pub mod Laws
