@@ -37,10 +37,10 @@ more x z y e h = ap shift e ∙ shift-low z y h
 
 shifts-low : (x y : ℕ) → y < 256 → eightShifts (bitXor x y) ≡ bitXor (eightShifts x) (y * 256)
 shifts-low x y h =
+    let z : y * 2 * 2 * 2 * 2 * 2 * 2 * 2 * 2 ≡ y * 256 = omega arith in
     let one : shift (bitXor x y) ≡ bitXor (shift x) (y * 2) = shift-low x y (omega arith) in
     let four = more _ _ _ (more _ _ _ (more _ _ _ one (omega arith)) (omega arith)) (omega arith) in
     let eight = more _ _ _ (more _ _ _ (more _ _ _ (more _ _ _ four (omega arith)) (omega arith)) (omega arith)) (omega arith) in
-    let z : y * 2 * 2 * 2 * 2 * 2 * 2 * 2 * 2 ≡ y * 256 = omega arith in
     eight ∙ ap (λ u. bitXor (eightShifts x) u) z
 
 -- a byte that comes in at the top meets the high byte alone

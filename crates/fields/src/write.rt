@@ -20,7 +20,8 @@ pub fn put_u16(out: &mut [u8], at: usize, v: u16) -> Result<(), Fault>
     ensures answer { λ r. ⌜ r ≡ wrote (now (out .entry)) at (bytes16 v) ⌝ }
     ensures after { λ _. ⌜ now (out .exit) ≡ written (now (out .entry)) at (bytes16 v) ⌝ }
 {
-    put_bytes(out, at, &v.to_be_bytes())
+    let word = v.to_be_bytes();
+    put_bytes(out, at, &word)
 }
 
 // Writes `v` to the four bytes from `at` on.
@@ -28,5 +29,6 @@ pub fn put_u32(out: &mut [u8], at: usize, v: u32) -> Result<(), Fault>
     ensures answer { λ r. ⌜ r ≡ wrote (now (out .entry)) at (bytes32 v) ⌝ }
     ensures after { λ _. ⌜ now (out .exit) ≡ written (now (out .entry)) at (bytes32 v) ⌝ }
 {
-    put_bytes(out, at, &v.to_be_bytes())
+    let long = v.to_be_bytes();
+    put_bytes(out, at, &long)
 }

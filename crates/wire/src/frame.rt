@@ -8,7 +8,7 @@ use common::Fault;
 use crc::check_word;
 use fields::u16_at;
 
-// A sound frame, told apart by its type, with its body as a part of the bytes given.
+// A sound frame, told apart by its type. The body is borrowed from the frame's own bytes.
 #[derive(Clone, Copy)]
 pub enum Frame<'a> {
     Data(&'a [u8]),

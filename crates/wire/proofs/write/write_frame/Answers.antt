@@ -26,7 +26,7 @@ returns c =
     let n = 16 + length body in
     let head = headerBytes (headerFor (c .args .kind) (c .args .id) (c .args .time) (length body)) in
     let w = head ++ body in
-    let first : c .copy-from-slice .last .self ≡ head = c .copy-from-slice .ensures .after ∙ c .to-bytes .ensures .value in
+    let first : c .copy-from-slice .last .self ≡ head = cc in
     let out = putMid 14 (n - 2 - 14) (c .copy-from-slice .last .self ++ drop 14 o) (c .copy-from-slice-2 .last .self) in
     let both : out ≡ over w o =
     part-put 14 (n - 2) (c .copy-from-slice .last .self ++ drop 14 o) (c .copy-from-slice-2 .last .self) body (c .copy-from-slice-2 .ensures .after) (omega arith)

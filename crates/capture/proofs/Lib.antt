@@ -1,0 +1,4 @@
+mod Walk
+mod Written
+mod Unread
+pub mod Road

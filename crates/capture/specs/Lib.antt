@@ -1,0 +1,3 @@
+pub mod Records
+pub mod Captures
+pub mod Laws
