@@ -1,0 +1,2 @@
+mod Bodies
+pub mod Walk
