@@ -1,2 +1,4 @@
 mod Bodies
 pub mod Walk
+pub mod Exact
+pub mod Joins

@@ -4,6 +4,8 @@ ghost use Rattle.config.specs.Configs.{configured, listed, listedBy, pastLimit
 ghost use Rattle.config.specs.Stations.{few, partLength, stationAt, stationsIn};
 ghost use Rattle.fields.specs.Fields.{be16, field};
 ghost use Rattle.std.specs.Options.{okOr};
+ghost use lib.ListN.{length};
+ghost use mathlib.Core.List.{[]};
 ghost use mathlib.Core.Path.{_≡_};
 use crate::config::Config;
 use crate::station::Format;
@@ -80,6 +82,23 @@ impl Station {
 }
 
 impl Stations {
+    // No station.
+    pub fn none() -> Stations
+        ensures { λ r. ⌜ listed r ≡ [] ⌝ }
+    {
+        Stations {
+            table: [NO_STATION; 32],
+            count: 0,
+        }
+    }
+
+    // How many there are.
+    pub fn len(&self) -> usize
+        ensures { λ r. ⌜ r ≡ length (listed (now (self .entry))) ⌝ }
+    {
+        self.count
+    }
+
     // The stations, in their order.
     pub fn as_slice(&self) -> &[Station]
         ensures { λ r. ⌜ now r ≡ listed (now (self .entry)) ⌝ }

@@ -5,8 +5,8 @@ use mathlib.Core.List.{List, [], _∷_, _++_, append-assoc}
 use native.Mathlib.Omega.{arith}
 use native.Mathlib.Nat.{zero-add}
 use borrow.Rule.Slice.PartMut.{putMid}
-use lib.ListN.{length, take, drop, length-append}
-use Rattle.std.proofs.shelf.Lists.{take-at, drop-at, drop-drop}
+use lib.ListN.{length, take, drop, length-append, length-drop}
+use Rattle.std.proofs.shelf.Lists.{take-at, drop-at, drop-drop, take-append-drop, length-take-le}
 use Rattle.fields.specs.Fields.{put, over}
 
 -- what a write of zs to the part from a to e leaves
@@ -28,3 +28,22 @@ put-over w o bs n e =
 -- a write at the front
 pub put-front : (xs bs : List ℕ) → put xs 0 bs ≡ over bs xs
 put-front xs bs = ap (λ k. bs ++ drop k xs) (zero-add (length bs))
+
+-- what stands behind the front may be counted to it
+over-more : (w o : List ℕ) (p : ℕ) → length w + p ≤ length o → over w o ≡ over (w ++ take p (drop (length w) o)) o
+over-more w o p h =
+    let rest : List ℕ = drop (length w) o in
+    let d = length-drop (length w) o in
+    let k : p ≤ length rest = omega (arith, d) in
+    let l : length (w ++ take p rest) ≡ length w + p = length-append w (take p rest) ∙ ap (λ m. length w + m) (length-take-le p rest k) in
+    ap (λ u. w ++ u) (sym (take-append-drop p rest)) ∙ (sym (append-assoc w (take p rest) (drop p rest))
+    ∙ ap (λ u. (w ++ take p rest) ++ u) (drop-drop p (length w) o ∙ ap (λ m. drop m o) (sym l)))
+
+-- a write some bytes behind the front, which stay
+pub put-later : (w o bs : List ℕ) (p n : ℕ) → length w + p ≡ n → n ≤ length o → put (over w o) n bs ≡ over ((w ++ take p (drop (length w) o)) ++ bs) o
+put-later w o bs p n e h =
+    let t : List ℕ = take p (drop (length w) o) in
+    let d = length-drop (length w) o in
+    let k : p ≤ length (drop (length w) o) = omega (arith, d) in
+    let l : length (w ++ t) ≡ n = length-append w t ∙ (ap (λ m. length w + m) (length-take-le p (drop (length w) o) k) ∙ e) in
+    ap (λ u. put u n bs) (over-more w o p (omega arith)) ∙ put-over (w ++ t) o bs n l

@@ -1,2 +1,3 @@
 pub mod Seals
 pub mod Again
+pub mod Headed
