@@ -41,11 +41,29 @@ WORKED_DATA = bytes.fromhex(
 assert WORKED_CONFIG[-2:] == bytes.fromhex("D5D1") and len(WORKED_CONFIG) == 454
 assert check_word(WORKED_DATA[:-2]) == 0xD43F
 
-# A small station of the 2011 edition: one phasor in integers, nothing else.
-SMALL_CONFIG = frame(
-    0xAA32, 7735, 1149577200, 0, 500000,
-    bytes.fromhex("000F4240 0001") + name("Station B") + bytes.fromhex("1E37 0000 0001 0000 0000")
-    + name("VB1") + bytes.fromhex("000DF847 0001 0000 001E"))
+
+def station(text, id_code, form, phasors, analogs, digitals):
+    """A station part; a digital word has a name for each of its 16 bits."""
+    channels = phasors + analogs + [f"{d} BIT {b:X}" for d in digitals for b in range(16)]
+    return (name(text) + struct.pack(">5H", id_code, form, len(phasors), len(analogs), len(digitals))
+            + b"".join(map(name, channels))
+            + bytes.fromhex("000DF847") * len(phasors) + bytes.fromhex("00000001") * len(analogs)
+            + bytes.fromhex("0000FFFF") * len(digitals) + bytes.fromhex("0001 0000"))
+
+
+def config(id_code, count, rate, *stations):
+    body = struct.pack(">IH", 1000000, len(stations)) + b"".join(stations) + struct.pack(">h", rate)
+    return frame(0xAA32, id_code, 1149577200, 0, count, body)
+
+
+# Senders of the 2011 edition: one small station; two stations, in floats and in integers; and one at
+# another rate than the rest.
+SMALL_CONFIG = config(7735, 500000, 30, station("Station B", 7735, 0, ["VB1"], [], []))
+PAIR_CONFIG = config(
+    7740, 510000, 30,
+    station("Station C1", 7741, 15, ["VC1"], ["TEMP"], []),
+    station("Station C2", 7742, 1, ["VC2", "IC2"], [], ["SWITCH"]))
+FAST_CONFIG = config(7750, 520000, 50, station("Station D", 7750, 0, ["VD1"], [], []))
 SMALL_DATA = frame(0xAA02, 7735, 1149580800, 0x03, 33333, bytes.fromhex("0000 392B0000 0000 0000"))
 DAMAGED = SMALL_DATA[:16] + b"\x38" + SMALL_DATA[17:]
 COMMAND = frame(0xAA42, 7800, 1149580800, 0, 40000, bytes.fromhex("0002"))
@@ -54,6 +72,8 @@ NO_SYNC = b"\xAB" + COMMAND[1:]
 RECORDS = [
     (1149577200463900, 0, WORKED_CONFIG),
     (1149577200501200, 1, SMALL_CONFIG),
+    (1149577200511000, 4, PAIR_CONFIG),
+    (1149577200520800, 3, FAST_CONFIG),
     (1149580800038000, 0, WORKED_DATA),
     (1149580800041000, 2, COMMAND),
     (1149580800052500, 1, SMALL_DATA),

@@ -1,25 +1,18 @@
 -- Room for one port more, and the table with it.
-use Prim.Native.Nat.{ℕ, _+_, _≤_, _<_}
-use mathlib.Core.Path.{_≡_, refl, sym, ap, _∙_}
-use mathlib.Core.Bool.{Bool, true, false, cond}
+use Prim.Native.Nat.{ℕ, _+_, _<_}
+use mathlib.Core.Path.{_≡_, sym, ap, _∙_}
+use mathlib.Core.Bool.{false}
 use mathlib.Core.List.{List, [], _∷_, _++_, map}
 use native.Mathlib.Omega.{arith}
-use lib.Dec.{leb, ltb}
 use lib.ListN.{length, take, set}
-use Rattle.std.specs.shelf.Lists.{sumBy}
 use Rattle.std.proofs.shelf.Lists.{length-map, length-take-le, take-more-set, map-push}
-use Rattle.std.proofs.shelf.Tests.{cond-true, cond-false}
-use Rattle.std.specs.declared.result.Result.{Result}
-use Rattle.std.specs.declared.result.Result.the-variants.{Ok, Err}
-use Rattle.common.specs.declared.fault.Fault.{Fault}
-use Rattle.common.specs.declared.fault.Fault.the-variants.{PlanFull, Buffer}
-use Rattle.layout.specs.Blocks.{dataLength}
+use Rattle.std.specs.declared.result.Result.the-variants.{Ok}
 use Rattle.plan.proofs.Accepts.{roomy}
 use Rattle.plan.specs.declared.record.Record.{Record}
 use Rattle.plan.specs.declared.table.Table.{Table}
-use Rattle.plan.specs.Ports.{PortOf, stationCount, bodyLength}
+use Rattle.plan.specs.Ports.{PortOf}
 use Rattle.plan.specs.Tables.{portOf, portsOf}
-use Rattle.plan.specs.Plans.{PlanOf, own, asked, full, short, placed, judged, adds}
+use Rattle.plan.specs.Plans.{PlanOf, own, asked, full, placed, judged, adds}
 
 pub length-ports : (t : Table) → length (portsOf t) ≡ t .count
 length-ports t =

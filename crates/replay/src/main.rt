@@ -1,35 +1,38 @@
-// Goes through a capture from standard input and prints what it holds.
+// Goes through a capture from standard input: prints its records, builds a plan from its
+// configurations, and publishes the combined configuration.
+mod build;
+mod combined;
 mod input;
 mod line;
+mod ports;
+mod records;
 mod totals;
 mod utc;
 
+use build::Build;
 use capture::Capture;
-use capture::CaptureIterator;
+use combined::show_combined;
 use common::FaultDisplay;
+use common::IdCode;
 use input::read_capture;
-use line::Line;
-use line::LineDisplay;
+use ports::show_ports;
+use ports::show_stations;
+use records::show_records;
 use std::error::AnyError;
-use totals::Totals;
-use totals::TotalsDisplay;
 
-// Prints a line for each record, and what came in all.
+// The code that the combined stream is sent under.
+const COMBINED: IdCode = IdCode(1);
+
+// Room for the longest configuration that a plan can make.
+const ROOM: usize = 40_024;
+
 fn replay(rt: &LibcRuntime, capture: Capture) -> Result<(), AnyError> {
-    let mut totals = Totals::new();
-    println!(
-        rt,
-        "{:>5}  {:<23}  {:>4}  frame",
-        "#", "reading (s since 1970)", "port"
-    )?;
-    for record in capture {
-        let line = Line::of(&record);
-        totals.count(&line);
-        let number = totals.records;
-        println!(rt, "{number:>5}  {line}")?;
-    }
-    println!(rt, "{totals}")?;
-    Ok(())
+    show_records(rt, capture)?;
+    let mut buffer = vec![in rt.alloc(); 0; ROOM]?;
+    let build = Build::from_capture(capture, COMBINED, buffer.as_mut_slice());
+    show_ports(rt, &build)?;
+    show_stations(rt, &build.plan)?;
+    show_combined(rt, &build.plan, build.reading, buffer.as_mut_slice())
 }
 
 fn run(rt: &LibcRuntime) -> Result<(), AnyError> {
