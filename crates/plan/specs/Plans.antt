@@ -49,7 +49,7 @@ bodied rate id (Err e) = Err e
 unfoldable pub asked : ℕ → List ℕ → Result PortOf Fault
 asked rate bytes = bodied rate (be16 bytes 4) (configBody (classified bytes))
 
--- a plan has at most 16 ports, 32 stations and 1,024 bytes of data body
+-- with one port more there would be over 16 ports, over 32 stations, or over 1,024 bytes of data body
 abbrev pub full : List PortOf → PortOf → Bool
 full ps q =
     leb 16 (length ps) || (ltb 32 (stationCount ps + length (q .stations)) || ltb 1024 (bodyLength ps + dataLength (q .stations)))
