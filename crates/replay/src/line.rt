@@ -9,6 +9,18 @@ use wire::Frame;
 use wire::FrameType;
 use wire::Header;
 
+// A reading, shown in seconds since 1970.
+#[derive(Clone, Copy)]
+pub struct Seconds(pub u64);
+
+pub impl fmt::Display for Seconds as SecondsDisplay {
+    fn fmt<W: fmt::Write>(&self, f: &mut fmt::Formatter<W>) -> fmt::Result {
+        let seconds = self.0 / 1_000_000;
+        let micros = self.0 % 1_000_000;
+        write!(f, "{seconds:>16}.{micros:06}")
+    }
+}
+
 // What a record's frame turned out to be.
 #[derive(Clone, Copy)]
 pub enum Finding {
@@ -58,10 +70,9 @@ fn name(kind: FrameType) -> &'static str {
 
 pub impl fmt::Display for Line as LineDisplay {
     fn fmt<W: fmt::Write>(&self, f: &mut fmt::Formatter<W>) -> fmt::Result {
-        let seconds = self.reading / 1_000_000;
-        let micros = self.reading % 1_000_000;
+        let reading = Seconds(self.reading);
         let port = self.port.0;
-        write!(f, "{seconds:>16}.{micros:06}  {port:>4}  ")?;
+        write!(f, "{reading}  {port:>4}  ")?;
         match self.finding {
             Finding::Told(header) => show(header, f),
             Finding::Refused(fault) => write!(f, "refused: {fault}"),

@@ -1,5 +1,6 @@
 use Prim.Native.Nat.{ℕ}
 use mathlib.Core.Path.{_≡_, sym, _∙_}
+use native.Mathlib.Omega.{arith}
 use Rattle.config.specs.declared.station.Station.{Station}
 use Rattle.plan.proofs.Finds.{place-here, place-next, place-none}
 use Rattle.plan.proofs.find.position.Needs as need
@@ -9,7 +10,7 @@ nobody = record { id = record { 0 = 0 }; format = record { 0 = 0 }; phasors = 0;
 
 pub returns-then-station-id : need.returns-then-station-id
 returns-then-station-id c =
-    let e = place-here (c .args .stations .now) (c .args .id .0) (c .loop-place .place) nobody (c .loop-place-test .taken) (c .if-station-id .taken) in
+    let e = place-here (c .args .stations .now) (c .args .id .0) (c .loop-place .place) nobody (c .loop-place-test .taken) (omega arith) in
     sym e ∙ c .loop-place .inv
 
 pub loop-place-again : need.loop-place-again

@@ -1,13 +1,12 @@
 use borrow.Author.Needs.{needs}
-use mathlib.Core.Path.{_≡_, refl, sym, ap, _∙_}
-use Prim.Native.Nat.{_-_, _+_, _≤_, _<_}
-use mathlib.Core.List.{[], _∷_, _++_}
+use mathlib.Core.Path.{_≡_, sym, ap, _∙_}
+use Prim.Native.Nat.{_-_, _<_}
 use native.Mathlib.Omega.{arith}
-use lib.ListN.{length, take, set, drop}
+use lib.ListN.{length, take, drop}
 use Rattle.std.proofs.shelf.Lists.{take-more-set, take-rest, length-set}
 use Rattle.std.proofs.shelf.Results.{err-from-errBy}
 use Rattle.std.proofs.shelf.Tests.{eqb-true, eqb-false}
-use Rattle.config.specs.Stations.{stationsIn, before, partLength}
+use Rattle.config.specs.Stations.{partLength}
 use Rattle.config.proofs.Walk.{walk-stops, walk-goes, walk-ends, walk-overruns}
 use Rattle.config.proofs.stations.Stations.read.Needs as need
 
@@ -27,11 +26,9 @@ loop-k-again c =
     let size = c .part-len-size .result in
     let h : k < length t = omega arith in
     let rest : take (length bs - size) (drop size bs) ≡ drop (partLength s) bs = take-rest bs size ∙ ap (λ n. drop n bs) (c .part-len-size .ensures) in
-    let w = walk-goes (c .args .count) k bs (take k t) s (c .loop-k-test .taken) (sym (c .in-Continue-station .ensures tt)) in (
-      length-set t k s ∙ c .loop-k .inv .0,
-      ap (λ u. before u (stationsIn (c .args .count - (k + 1)) (k + 1) (take (length bs - size) (drop size bs)))) (take-more-set t k s h)
-          ∙ (ap (λ u. before (take k t ++ s ∷ []) (stationsIn (c .args .count - (k + 1)) (k + 1) u)) rest ∙ (sym w ∙ c .loop-k .inv .1)),
-    )
+    let more = take-more-set t k s h in
+    let w = walk-goes (c .args .count) k bs (take k t) s (c .loop-k-test .taken) (sym (c .in-Continue-station .ensures tt)) in
+    (length-set t k s ∙ c .loop-k .inv .0, cc)
 
 pub returns-then-not-is-empty : need.returns-then-not-is-empty
 returns-then-not-is-empty c =

@@ -12,7 +12,8 @@ returns-in-Some c =
     let place : Some (c .in-Some .station) ≡ placeIn (listed (r .stations)) id 0 = c .in-Some .ensures tt ∙ ap (λ u. placeIn u id 0) (c .as-slice .ensures) in
     let e =
     find-at (c .ports-ports .result .now) id (c .loop-number .number) r (c .loop-number-test .taken) (c .index-ports-number .is) (Some (c .in-Some .station)) place in
-    sym e ∙ (c .loop-number .inv ∙ ap (λ ps. findIn ps id 0) (c .ports-ports .ensures .value))
+    let all = ap (λ ps. findIn ps id 0) (c .ports-ports .ensures .value) in
+    cc
 
 pub loop-number-again : need.loop-number-again
 loop-number-again c =
