@@ -76,8 +76,9 @@ returns c =
     let ok =
     adds-ok plan bytes (length o) q (c .in-Continue-check-own .ensures tt) (sym (c .in-Continue-port .ensures tt)) (sym (c .in-Continue-check-room .ensures tt)) in
     let place : at ≡ 20 + partsLength (plan .ports) = omega arith in
+    let number = ap (addAnswer plan) (sym ok) in
     record {
-      answer = ap Ok (c .place .ensures .answer) ∙ ap (addAnswer plan) (sym ok);
+      answer = cc;
       plan = c .place .ensures .plan ∙ ap (addPlan plan) (sym ok);
       after =
           part-put at (at + length parts) o (c .copy-from-slice .last .self) parts (c .copy-from-slice .ensures .after) refl
