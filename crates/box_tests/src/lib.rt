@@ -1,4 +1,6 @@
 // A box in the hands of a host: its size, and tickets of another box.
+#![tactic(auto)]
+
 #[cfg(test)]
 mod build;
 #[cfg(test)]

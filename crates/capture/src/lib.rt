@@ -1,4 +1,6 @@
 // Captures: frames as they came in, each with its reading and its line, held in borrowed bytes.
+#![tactic(auto)]
+
 mod capture;
 mod limits;
 mod record;

@@ -1,4 +1,6 @@
 // Captures at the limits of their format, and past them.
+#![tactic(auto)]
+
 #[cfg(test)]
 mod build;
 #[cfg(test)]

@@ -1,4 +1,6 @@
 // Policies and feeds that are chosen at run time: one type for each of the two.
+#![tactic(auto)]
+
 mod any_feed;
 mod any_policy;
 mod simple;

@@ -1,4 +1,6 @@
 // The combined data frame of a slot, from what its cell holds.
+#![tactic(auto)]
+
 mod body;
 mod frame;
 

@@ -1,4 +1,6 @@
 // What every layer shares: the refusals, and the numbers that name a line and a sender.
+#![tactic(auto)]
+
 mod fault;
 mod ids;
 

@@ -1,4 +1,6 @@
 // The concentrator: frames from a feed lined up by time stamp, slot by slot, under a wait policy.
+#![tactic(auto)]
+
 mod calls;
 mod concentrator;
 mod open;

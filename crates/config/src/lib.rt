@@ -1,4 +1,6 @@
 // Configuration-2 bodies: the stations that they describe.
+#![tactic(auto)]
+
 mod config;
 mod read;
 mod station;

@@ -1,4 +1,6 @@
 // Makes the calls that standard input lists, one a line, and prints the answer of each.
+#![tactic(auto)]
+
 mod answer;
 mod call;
 mod draft;

@@ -1,5 +1,5 @@
 -- The register's shifts are linear in the bits that do not reach its top, so a byte can be taken in by a table.
-use Rattle.std.proofs.Common.{◌≡◌, ℕ, ◌+◌, ◌*◌, ◌/◌, ◌%◌, ◌^◌, ◌<◌, sym, refl, ap, ◌∙◌, arith, pow_pos}
+use Rattle.std.proofs.Common.{◌≡◌, ℕ, ◌+◌, ◌*◌, ◌/◌, ◌%◌, ◌^◌, ◌<◌, sym, ap, ◌∙◌, arith, pow_pos}
 use lib.Bits.{bit_xor, bit_and, xor_mod, xor_shr, xor_block, xor_assoc, xor_comm, xor_zero_r, xor_shifted, and_mask}
 use Rattle.crc.specs.CheckWord.{shift, eight_shifts, taken, table_rule}
 

@@ -1,4 +1,6 @@
 // The check word of a frame: CRC-CCITT, byte by byte from a stored table.
+#![tactic(auto)]
+
 ghost use Rattle.crc.specs.CheckWord.{Example, check_word_of, taken, table_rule};
 ghost use Rattle.std.specs.Prelude.{◌≡◌};
 

@@ -1,5 +1,7 @@
 // The alignment engine: slots, what they hold, and how they close. It knows neither feed nor policy
 // by itself: each call that may close slots is lent the policy.
+#![tactic(auto)]
+
 mod admit;
 mod closing;
 mod engine;

@@ -1,4 +1,6 @@
 // Feeds: where a concentrator's frames come from, behind one interface with one meaning.
+#![tactic(auto)]
+
 mod feed;
 mod joined;
 mod mapped;

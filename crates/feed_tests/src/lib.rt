@@ -1,4 +1,6 @@
 // Feeds of each kind, by themselves and piled up.
+#![tactic(auto)]
+
 #[cfg(test)]
 mod buffers;
 #[cfg(test)]

@@ -1,4 +1,6 @@
 // Big-endian fields of borrowed bytes, read and written at any place.
+#![tactic(auto)]
+
 mod read;
 mod write;
 

@@ -1,4 +1,6 @@
 // The law over runs of a concentrator: what holds of every sequence of calls and their answers, as theorems.
+#![tactic(auto)]
+
 ghost use Rattle.laws.specs.Laws.{RunsStand};
 ghost use Rattle.laws.specs.Example.{ExampleStands};
 

@@ -1,4 +1,6 @@
 // The plan: what the concentrator knows of its lines, and the combined configuration of them all.
+#![tactic(auto)]
+
 mod add;
 mod find;
 mod plan;

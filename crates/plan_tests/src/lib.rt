@@ -1,4 +1,6 @@
 // Plans filled from configuration frames: what is taken, what is refused, and what is published.
+#![tactic(auto)]
+
 #[cfg(test)]
 mod absent;
 #[cfg(test)]

@@ -1,4 +1,6 @@
 // Wait policies: when the slot of a stamp closes.
+#![tactic(auto)]
+
 mod absolute;
 mod limits;
 mod policy;

@@ -1,4 +1,6 @@
 // The feed of a capture: recorded frames, each added once its reading has come.
+#![tactic(auto)]
+
 mod calls;
 mod over;
 mod recorded;

@@ -1,5 +1,7 @@
 // Goes through a capture from standard input: prints its records, builds a plan from its
 // configurations, publishes the combined configuration, and tells the slots of its data frames.
+#![tactic(auto)]
+
 mod build;
 mod closing;
 mod combined;

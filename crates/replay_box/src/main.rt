@@ -1,6 +1,8 @@
 // Plays a capture from standard input through a concentrator: prints its frames, builds a plan from
 // their configurations, publishes the combined configuration, and tells what the concentrator
 // refuses and what it writes for each slot.
+#![tactic(auto)]
+
 mod arrivals;
 mod build;
 mod combined;

@@ -1,4 +1,6 @@
 // Runs of calls: the model of the concentrator keeps the law.
+#![tactic(auto)]
+
 ghost use Rattle.runs.specs.Laws.{CallsKeepTheLaw};
 
 // Whatever is opened, with whatever feed and policy, each list of calls is answered as the law asks. Of

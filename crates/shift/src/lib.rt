@@ -1,4 +1,6 @@
 // Shifts of whole seconds, one for each line, applied to the frames of any feed.
+#![tactic(auto)]
+
 mod frame;
 mod shifts;
 

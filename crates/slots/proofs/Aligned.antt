@@ -5,7 +5,7 @@ use Rattle.std.proofs.lemmas.Nat.{mod_below}
 use Rattle.std.proofs.lemmas.Bool.{cases_lt, cases_eq, cases_order, lt-ltb, le-ltb, eq-eqb, ne_eqb, cond-true, cond-false}
 use Rattle.std.specs.Option.{option_map}
 use Rattle.std.specs.Bool.{then_some}
-use Rattle.slots.specs.Slots.{Belongs, nearest, in_second, place_of, slot_of, soc_of, count_of}
+use Rattle.slots.specs.Slots.{Belongs, nearest, in_second, place_of, soc_of, count_of}
 use Rattle.slots.specs.Laws.{AlignedBelongs, BelongsAligns, UniquePlace, OwnTime, WorkedSlots}
 
 none_not_some : {k : ℕ} → None ≡ Some k → ⊥

@@ -1,4 +1,6 @@
 // Slots at a rate: their stamps and tags, and which slot a frame belongs to.
+#![tactic(auto)]
+
 mod align;
 mod rate;
 mod stamps;

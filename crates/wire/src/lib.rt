@@ -1,4 +1,6 @@
 // Frames of IEEE C37.118.2: their headers, what they are told apart as, and how they are written.
+#![tactic(auto)]
+
 mod frame;
 mod header;
 mod kind;

@@ -1,4 +1,6 @@
 // Frames told apart, written and refused: the standard's worked frames, and tables of damaged ones.
+#![tactic(auto)]
+
 #[cfg(test)]
 mod damaged;
 #[cfg(test)]

@@ -1,4 +1,6 @@
 // The worked examples of the rules, as one fact about the definitions that all contracts rest on.
+#![tactic(auto)]
+
 ghost use Rattle.worked.specs.Examples.{Examples};
 
 use policy::Relative;

@@ -1,4 +1,3 @@
-use Rattle.std.proofs.Common.{◌≡◌, sym}
 use Rattle.crc.proofs.Linear.{by_table}
 use Rattle.crc.proofs.step.Goals as goal
 

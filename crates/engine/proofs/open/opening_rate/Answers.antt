@@ -13,10 +13,10 @@ when_some : (b : Bool) (x y : ℕ) → Some x ≡ then_some b y → (b ≡ true)
 when_some true x y e = (refl, cc)
 when_some false x y e = absurd (let z : ◌≡◌ {A = ℕ} 0 1 = cc in let n : ⊥ = omega arith in n)
 
-pub returns-then-is-empty : goal.returns-then-is-empty
-returns-then-is-empty c =
+pub returns-then-is_empty : goal.returns-then-is_empty
+returns-then-is_empty c =
     let n = sym (length-ports c.ports.result.now) ∙ ap length c.ports.ensures.value in
-    let e = c.if-is-empty.ensures in
+    let e = c.if-is_empty.ensures in
     let none : eqb (length (plan_of c.args.plan.now).ports) 0 ≡ true = cc in
     rw (le-ltb 4000000000000000 c.args.reading (omega arith), none)
 
@@ -31,24 +31,24 @@ module _ (p : PlanOf) (bound reading frames : ℕ) (h : reading ≤ 400000000000
       let f : window_fits p.rate bound ≡ w = ap (λ x. window_fits x bound) (sym rate_is) ∙ sym e in
       rw (le-ltb 4000000000000000 reading h, n, t, f)
 
-pub returns-then-not-fits-window : goal.returns-then-not-fits-window
-returns-then-not-fits-window c =
+pub returns-then-not-fits_window : goal.returns-then-not-fits_window
+returns-then-not-fits_window c =
     let n = sym (length-ports c.ports.result.now) ∙ ap length c.ports.ensures.value in
-    let e = c.if-is-empty.ensures in
+    let e = c.if-is_empty.ensures in
     let some : eqb (length (plan_of c.args.plan.now).ports) 0 ≡ false = cc in
     let r = c.in-Some.ensures in
     let q = c.rate.ensures in
-    opens (plan_of c.args.plan.now) c.args.bound c.args.reading c.in-Some.rate.frames (omega arith) some (cc) false (search c.if-not-fits-window.ensures.answer)
+    opens (plan_of c.args.plan.now) c.args.bound c.args.reading c.in-Some.rate.frames (omega arith) some (cc) false (search c.if-not-fits_window.ensures.answer)
 
 pub returns : goal.returns
 returns c =
     let n = sym (length-ports c.ports.result.now) ∙ ap length c.ports.ensures.value in
-    let e = c.if-is-empty.ensures in
+    let e = c.if-is_empty.ensures in
     let some : eqb (length (plan_of c.args.plan.now).ports) 0 ≡ false = cc in
     let r = c.in-Some.ensures in
     let q = c.rate.ensures in
     let own : Some c.in-Some.rate.frames ≡ rate_from (plan_of c.args.plan.now).rate = cc in (
-      opens (plan_of c.args.plan.now) c.args.bound c.args.reading c.in-Some.rate.frames (omega arith) some own true (search c.if-not-fits-window.ensures.answer),
+      opens (plan_of c.args.plan.now) c.args.bound c.args.reading c.in-Some.rate.frames (omega arith) some own true (search c.if-not-fits_window.ensures.answer),
       rate_is (plan_of c.args.plan.now) c.args.bound c.args.reading c.in-Some.rate.frames (omega arith) some own,
       omega arith,
     )

@@ -12,12 +12,12 @@ fits c =
     let l = taken-fits m.waits c.loop-taken.buffer c.in-Ok.taken m.lawful c.in-Ok.ensures.answer in
     omega (arith, l)
 
-pub slice-bounds-buffer-end : goal.slice-bounds-buffer-end
-slice-bounds-buffer-end c = fits c
+pub slice_bounds-buffer-end : goal.slice_bounds-buffer-end
+slice_bounds-buffer-end c = fits c
 
-pub slice-bounds-to-vec-end : goal.slice-bounds-to-vec-end
-slice-bounds-to-vec-end c =
-    sym (length-take-le c.in-Ok.taken.len c.next.new.buffer (fits (goal.at.slice-bounds-to-vec-end c).In-Ok))
+pub slice_bounds-to_vec-end : goal.slice_bounds-to_vec-end
+slice_bounds-to_vec-end c =
+    sym (length-take-le c.in-Ok.taken.len c.next.new.buffer (fits (goal.at.slice_bounds-to_vec-end c).In-Ok))
 
 pub loop-taken-smaller : goal.loop-taken-smaller
 loop-taken-smaller c =

@@ -14,11 +14,11 @@ returns g c =
     let close = g.P.Policy.closing s.policy in
     let m = (g.F.Feed.meaning s.feed).waits in
     let m' = (g.F.Feed.meaning c.next.new.self).waits in
-    let o = opens e.terms.shut c.in-ok-check.field-0 c.in-ok-check.ensures in
-    let few : exhausted (box_of e) ≡ false = (stopped (exhausted (box_of e)) _ _ tt (sym c.in-ok-check-count.ensures)).0 in
-    let n = c.in-ok-taken.ensures in
+    let o = opens e.terms.shut c.in_ok-check.field-0 c.in_ok-check.ensures in
+    let few : exhausted (box_of e) ≡ false = (stopped (exhausted (box_of e)) _ _ tt (sym c.in_ok-check_count.ensures)).0 in
+    let n = c.in_ok-taken.ensures in
     let a = c.admit-verdict.ensures in
     let p =
-    pull_steps e.terms last.terms close (box_of e) (box_of last) m m' o a.terms c.args.buffer.now c.next.new.buffer c.in-ok-taken.taken
+    pull_steps e.terms last.terms close (box_of e) (box_of last) m m' o a.terms c.args.buffer.now c.next.new.buffer c.in_ok-taken.taken
     c.admit-verdict.result few (record { answer = n.answer; frame = n.frame; left = n.left }) a.answer a.next in
     record { answer = p.answer; frame = p.frame; next = p.after }

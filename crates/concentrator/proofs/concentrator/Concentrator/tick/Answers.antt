@@ -10,17 +10,17 @@ returns g c =
     let e = s.engine in
     let close = g.P.Policy.closing s.policy in
     let m = (g.F.Feed.meaning s.feed).waits in
-    let m' = (g.F.Feed.meaning c.tick-once.new.feed).waits in
+    let m' = (g.F.Feed.meaning c.tick_once.new.feed).waits in
     let scratch = c.args.scratch.now in
-    let o = opens e.terms.shut c.in-ok-check.field-0 c.in-ok-check.ensures in
-    let room = le-ltb (length scratch) 1040 c.if-scratch-lt-LONGEST-FRAME.false in
-    let k = c.in-ok-latest.ensures in
+    let o = opens e.terms.shut c.in_ok-check.field-0 c.in_ok-check.ensures in
+    let room = le-ltb (length scratch) 1040 c.if-scratch-lt-LONGEST_FRAME.false in
+    let k = c.in_ok-latest.ensures in
     let last = c.tick.new.self in
-    let l = c.in-ok-latest.latest in
+    let l = c.in_ok-latest.latest in
     let said = tick_said_lem e.terms last.terms close (box_of e) (box_of last) m m' o k.terms c.args.reading l scratch room k.answer in
-    let fine : c.tick-once.result ≡ Ok tt = c.tick-once.ensures.answer ∙ rw room in
+    let fine : c.tick_once.result ≡ Ok tt = c.tick_once.ensures.answer ∙ rw room in
     record {
       answer = fine ∙ said;
-      next = tick-next e.terms last.terms close (box_of e) (box_of last) m m' o k.terms c.args.reading l scratch room k.answer k.next c.tick-once.ensures.left;
+      next = tick-next e.terms last.terms close (box_of e) (box_of last) m m' o k.terms c.args.reading l scratch room k.answer k.next c.tick_once.ensures.left;
       refused = λ f q. absurd (let z : ◌≡◌ {A = ℕ} 0 1 = cc in let n : ⊥ = omega arith in n);
     }

@@ -19,5 +19,5 @@ count-requires g c =
     let set = setting_of s.terms in
     let b = ap (λ (x : Box). x.judged) c.accept-verdict.ensures.next in
     let k = same_count close set (box_of s) c.args.port.0 (judge set (box_of s) c.args.port.0 c.args.bytes.now) in
-    let m = leb-false 1000000000000000 s.judged (stopped (exhausted (box_of s)) _ _ tt (sym c.in-ok-check-count.ensures)).0 in
+    let m = leb-false 1000000000000000 s.judged (stopped (exhausted (box_of s)) _ _ tt (sym c.in_ok-check_count.ensures)).0 in
     omega (arith, b, k, m)

@@ -12,6 +12,6 @@ returns g c =
     let s = c.args.self.now in
     let close = g.P.Policy.closing c.args.policy.now in
     let e : held c.stamp-stamp.result ≡ held (stamp_of (frames_of s.terms.rate) c.args.slot) = ap held c.stamp-stamp.ensures.answer ∙ twice (stamp_of (frames_of s.terms.rate) c.args.slot) in
-    let a = c.arrival-of.ensures in
-    let k = c.closes-at.ensures in
+    let a = c.arrival_of.ensures in
+    let k = c.closes_at.ensures in
     cc

@@ -13,7 +13,7 @@ pub begin-engine-requires : goal.begin-engine-requires
 begin-engine-requires g c =
     let p = c.in-Ok.ensures in
     let n = first-near (frames_of c.in-Ok.rate) c.args.reading c.in-Ok.rate.some p.2 in
-    record { time = p.2; near = omega (arith, n, c.first-slot.ensures.answer) }
+    record { time = p.2; near = omega (arith, n, c.first_slot.ensures.answer) }
 
 pub returns-in-Ok : goal.returns-in-Ok
 returns-in-Ok g c =
@@ -23,12 +23,12 @@ returns-in-Ok g c =
     let last = c.settle.new.self in
     let terms = c.settle.ensures.terms ∙ c.begin-engine.ensures.terms in
     let rate = p.1 in
-    let first : c.first-slot.result ≡ first_slot (plan_of c.args.plan.now).rate c.args.reading =
-    c.first-slot.ensures.answer ∙ ap (λ F. first_slot F c.args.reading) rate in
+    let first : c.first_slot.result ≡ first_slot (plan_of c.args.plan.now).rate c.args.reading =
+    c.first_slot.ensures.answer ∙ ap (λ F. first_slot F c.args.reading) rate in
     let made : ℕ → ℕ → Setting = λ F n. record { id = (plan_of c.args.plan.now).id; rate = F; ports = (plan_of c.args.plan.now).ports; first = n } in
     let own : setting_of b.terms ≡ open_setting (plan_of c.args.plan.now) c.args.reading =
     ap setting_of c.begin-engine.ensures.terms
-    ∙ (ap (λ F. made F c.first-slot.result) rate ∙ ap (made (plan_of c.args.plan.now).rate) first) in
+    ∙ (ap (λ F. made F c.first_slot.result) rate ∙ ap (made (plan_of c.args.plan.now).rate) first) in
     let empty = c.begin-engine.ensures.next in
     record {
       shut = ap (λ (t : Terms). t.shut) terms ∙ (sym p.0 ∙ cc);

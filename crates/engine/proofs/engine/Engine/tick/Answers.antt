@@ -13,7 +13,7 @@ pub returns : goal.returns
 returns g c =
     let s = c.args.self.now in
     let close = g.P.Policy.closing c.args.policy.now in
-    let o = opens s.terms.shut c.in-ok-check.field-0 c.in-ok-check.ensures in
+    let o = opens s.terms.shut c.in_ok-check.field-0 c.in_ok-check.ensures in
     let said = passes (box_of s) c.args.reading (omega arith) (omega arith) in
     let l = c.max-latest.ensures in
     record {

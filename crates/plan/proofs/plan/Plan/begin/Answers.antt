@@ -3,10 +3,17 @@ use Rattle.plan.specs.Ports.{station_count, body_length, parts_length}
 use Rattle.plan.specs.Plans.{PlanOf}
 use Rattle.plan.proofs.plan.Plan.begin.Goals as goal
 
-pub invariant-of-result : goal.invariant-of-result
-invariant-of-result c =
+pub invariant_of-result : goal.invariant_of-result
+invariant_of-result c =
     let e = c.empty.ensures in
-    (sym (ap station_count e), (sym (ap body_length e), (sym (ap parts_length e), (omega arith, (omega arith, (omega arith, tt))))))
+    record {
+      counted = sym (ap station_count e);
+      measured = sym (ap body_length e);
+      filled = sym (ap parts_length e);
+      few = omega arith;
+      narrow = omega arith;
+      bounded = omega arith;
+    }
 
 pub returns : goal.returns
 returns c = ap (λ ps. record { id = c.args.id.0; rate = c.args.rate; ports = ps }) c.empty.ensures

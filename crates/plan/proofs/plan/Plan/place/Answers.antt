@@ -8,8 +8,8 @@ use Rattle.plan.proofs.Accepts.{roomy}
 use Rattle.plan.proofs.Room.{length-ports, ports-more}
 use Rattle.plan.proofs.plan.Plan.place.Goals as goal
 
-pub invariant-of-self : goal.invariant-of-self
-invariant-of-self c =
+pub invariant_of-self : goal.invariant_of-self
+invariant_of-self c =
     let t = c.args.self.now.table in
     let ps = ports_of t in
     let q = port_of c.args.port in
@@ -18,7 +18,14 @@ invariant-of-self c =
     let stations = ap station_count more ∙ sum_by_push (λ (p : PortOf). length p.stations) ps q in
     let body = ap body_length more ∙ sum_by_push (λ (p : PortOf). data_length p.stations) ps q in
     let parts = ap parts_length more ∙ sum_by_push (λ (p : PortOf). part_lengths p.stations) ps q in
-    (omega (arith, stations), (omega (arith, body), (omega (arith, parts), (omega (arith, room.stations), (omega (arith, room.body), (omega arith, tt))))))
+    record {
+      counted = omega (arith, stations);
+      measured = omega (arith, body);
+      filled = omega (arith, parts);
+      few = omega (arith, room.stations);
+      narrow = omega (arith, room.body);
+      bounded = omega arith;
+    }
 
 pub returns : goal.returns
 returns c =

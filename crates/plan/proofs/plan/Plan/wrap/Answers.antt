@@ -24,22 +24,22 @@ returns c =
     let base = bytes32 1000000 in
     let count = bytes16 s.stations in
     let rate = bytes16 s.rate in
-    let first : c.copy-from-slice.new.self ≡ head n = cc in
-    let second : c.copy-from-slice-2.new.self ≡ base = c.copy-from-slice-2.ensures.after ∙ c.to-be-bytes.ensures in
-    let third : c.copy-from-slice-3.new.self ≡ count = c.copy-from-slice-3.ensures.after ∙ c.to-be-bytes-2.ensures in
-    let fourth : c.copy-from-slice-4.new.self ≡ rate = c.copy-from-slice-4.ensures.after ∙ c.to-be-bytes-3.ensures in
-    let o1 = c.copy-from-slice.new.self ++ drop 14 o in
-    let o2 = put_mid 14 4 o1 c.copy-from-slice-2.new.self in
-    let o3 = put_mid 18 2 o2 c.copy-from-slice-3.new.self in
-    let o4 = put_mid (n - 4) (n - 2 - (n - 4)) o3 c.copy-from-slice-4.new.self in
+    let first : c.copy_from_slice.new.self ≡ head n = cc in
+    let second : c.copy_from_slice-2.new.self ≡ base = c.copy_from_slice-2.ensures.after ∙ c.to_be_bytes.ensures in
+    let third : c.copy_from_slice-3.new.self ≡ count = c.copy_from_slice-3.ensures.after ∙ c.to_be_bytes-2.ensures in
+    let fourth : c.copy_from_slice-4.new.self ≡ rate = c.copy_from_slice-4.ensures.after ∙ c.to_be_bytes-3.ensures in
+    let o1 = c.copy_from_slice.new.self ++ drop 14 o in
+    let o2 = put_mid 14 4 o1 c.copy_from_slice-2.new.self in
+    let o3 = put_mid 18 2 o2 c.copy_from_slice-3.new.self in
+    let o4 = put_mid (n - 4) (n - 2 - (n - 4)) o3 c.copy_from_slice-4.new.self in
     let e1 : o1 ≡ over (head n) o = ap (λ u. u ++ drop 14 o) first in
     let e2 : o2 ≡ over (head n ++ base) o =
-    part-put 14 18 o1 c.copy-from-slice-2.new.self base second refl ∙ (ap (λ u. put u 14 base) e1 ∙ put-over (head n) o base 14 refl) in
+    part-put 14 18 o1 c.copy_from_slice-2.new.self base second refl ∙ (ap (λ u. put u 14 base) e1 ∙ put-over (head n) o base 14 refl) in
     let w = (head n ++ base) ++ count in
     let e3 : o3 ≡ over w o =
-    part-put 18 20 o2 c.copy-from-slice-3.new.self count third refl ∙ (ap (λ u. put u 18 count) e2 ∙ put-over (head n ++ base) o count 18 refl) in
+    part-put 18 20 o2 c.copy_from_slice-3.new.self count third refl ∙ (ap (λ u. put u 18 count) e2 ∙ put-over (head n ++ base) o count 18 refl) in
     let e4 =
-    part-put (n - 4) (n - 2) o3 c.copy-from-slice-4.new.self rate fourth (omega arith)
+    part-put (n - 4) (n - 2) o3 c.copy_from_slice-4.new.self rate fourth (omega arith)
     ∙ (ap (λ u. put u (n - 4) rate) e3 ∙ put-later w o rate p (n - 4) (omega arith) (omega arith)) in
     let t = take p (drop 20 o) in
     let d = length-drop 20 o in

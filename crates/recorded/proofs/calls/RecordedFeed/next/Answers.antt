@@ -13,16 +13,16 @@ fits c =
     let e = first_carries (queue_of s).waiting (entry_of c.in-Some.record) (queue-held s).0 c.in-Some.ensures.answer in
     let l : length c.in-Some.record.frame.now ≤ 1040 = e.few in omega arith
 
-pub slice-bounds-copy-from-slice-end : goal.slice-bounds-copy-from-slice-end
-slice-bounds-copy-from-slice-end c = fits (goal.at.slice-bounds-copy-from-slice-end c).In-Some
+pub slice_bounds-copy_from_slice-end : goal.slice_bounds-copy_from_slice-end
+slice_bounds-copy_from_slice-end c = fits (goal.at.slice_bounds-copy_from_slice-end c).In-Some
 
-pub slice-bounds-copy-from-slice-end-2 : goal.slice-bounds-copy-from-slice-end-2
-slice-bounds-copy-from-slice-end-2 c =
-    let l = length-take-le (length c.in-Some.record.frame.now) c.args.buffer.now (fits (goal.at.slice-bounds-copy-from-slice-end-2 c).In-Some) in omega (arith, l)
+pub slice_bounds-copy_from_slice-end-2 : goal.slice_bounds-copy_from_slice-end-2
+slice_bounds-copy_from_slice-end-2 c =
+    let l = length-take-le (length c.in-Some.record.frame.now) c.args.buffer.now (fits (goal.at.slice_bounds-copy_from_slice-end-2 c).In-Some) in omega (arith, l)
 
-pub copy-from-slice-requires : goal.copy-from-slice-requires
-copy-from-slice-requires c =
-    let l = length-take-le (length c.in-Some.record.frame.now) c.args.buffer.now (fits (goal.at.copy-from-slice-requires c).In-Some) in omega (arith, l)
+pub copy_from_slice-requires : goal.copy_from_slice-requires
+copy_from_slice-requires c =
+    let l = length-take-le (length c.in-Some.record.frame.now) c.args.buffer.now (fits (goal.at.copy_from_slice-requires c).In-Some) in omega (arith, l)
 
 pub returns : goal.returns
 returns c =
@@ -31,5 +31,5 @@ returns c =
     let t = c.in-Some.ensures in
     let room : 1040 ≤ length c.args.buffer.now = omega arith in
     let n = took q.waiting q.coming (entry_of c.in-Some.record) c.args.buffer.now room t.answer t.left in
-    let copied = c.copy-from-slice.ensures.after in
+    let copied = c.copy_from_slice.ensures.after in
     record { answer = cc; frame = cc; left = cc; sound = cc }

@@ -6,7 +6,7 @@ pub returns : goal.returns
 returns g c =
     let m = (g.F.Feed.meaning c.args.self.now.feed).waits in
     let m' = (g.F.Feed.meaning c.next.new.self).waits in
-    let a = c.in-ok-taken.ensures in
-    let n = led-next c.args.self.now.wiring.ports m m' c.args.buffer.now c.next.new.buffer c.in-ok-taken.taken c.port-of.result
-    (record { answer = a.answer; frame = a.frame; left = a.left }) c.port-of.ensures in
+    let a = c.in_ok-taken.ensures in
+    let n = led-next c.args.self.now.wiring.ports m m' c.args.buffer.now c.next.new.buffer c.in_ok-taken.taken c.port_of.result
+    (record { answer = a.answer; frame = a.frame; left = a.left }) c.port_of.ensures in
     record { answer = n.answer; frame = n.frame; left = n.left }

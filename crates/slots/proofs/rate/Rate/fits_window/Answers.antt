@@ -11,7 +11,7 @@ returns c =
     let most = div-le_self 32000000 F in
     record {
       answer =
-          same_test c.saturating-add.result (32000000 / F) (x * F) 32000000
+          same_test c.saturating_add.result (32000000 / F) (x * F) 32000000
           (λ h. fits.0 (omega arith))
           (λ h. let l = fits.1 h in omega arith);
       laws = window_spans;
