@@ -47,7 +47,7 @@ impl Engine {
     // Judges a frame, and keeps it if it is to be accepted.
     fn accept<P: Policy>(&mut self, policy: &P, port: Port, bytes: &[u8]) -> Result<(), Fault>
         ensures answer { result ≡ verdict_of (judge_of (setting_of self.old.terms) (box_of self.old) port.0 bytes.now) }
-        ensures next { box_of self.new ≡ placed (closing policy.now) (setting_of self.old.terms) (box_of self.old) port.0 (judge_of (setting_of self.old.terms) (box_of self.old) port.0 bytes.now) }
+        ensures next { box_of self.new ≡ placed (P.closing policy.now) (setting_of self.old.terms) (box_of self.old) port.0 (judge_of (setting_of self.old.terms) (box_of self.old) port.0 bytes.now) }
         ensures terms { self.new.terms ≡ self.old.terms }
     {
         let sample = self.judge(port, bytes)?;
@@ -58,7 +58,7 @@ impl Engine {
     // Takes one frame for a port: judges it, keeps it if it is accepted, and counts it.
     pub fn admit<P: Policy>(&mut self, policy: &P, port: Port, bytes: &[u8]) -> Result<(), Fault>
         ensures answer { result ≡ unless_shut self.old.terms.shut (admit_said (setting_of self.old.terms) (box_of self.old) port.0 bytes.now) }
-        ensures next { box_of self.new ≡ if_open self.old.terms.shut (box_of self.old) (admitted (closing policy.now) (setting_of self.old.terms) (box_of self.old) port.0 bytes.now) }
+        ensures next { box_of self.new ≡ if_open self.old.terms.shut (box_of self.old) (admitted (P.closing policy.now) (setting_of self.old.terms) (box_of self.old) port.0 bytes.now) }
         ensures terms { self.new.terms ≡ self.old.terms }
     {
         self.check()?;

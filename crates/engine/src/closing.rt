@@ -13,7 +13,7 @@ pub(crate) const EARLIEST: u64 = 100_000;
 impl Engine {
     // Whether the slot's closing reading has come.
     pub(crate) fn is_ripe<P: Policy>(&self, policy: &P, slot: u64) -> bool
-        ensures { result ≡ ripe (closing policy.now) (setting_of self.now.terms) (box_of self.now) slot }
+        ensures { result ≡ ripe (P.closing policy.now) (setting_of self.now.terms) (box_of self.now) slot }
     {
         let stamp = self.terms.rate.stamp(slot);
         policy.closes_at(stamp, self.arrival_of(slot)) <= self.latest
@@ -22,7 +22,7 @@ impl Engine {
     // Where the front stands once all up to the highest ripe slot is closed. Slots whose bound has passed are all ripe, and at most 32
     // have a stamp that has come and a bound that has not, so the policy is asked at most 33 times.
     fn past_ripe<P: Policy>(&self, policy: &P) -> u64
-        ensures value { result ≡ past_ripe_of (closing policy.now) (setting_of self.now.terms) (box_of self.now) }
+        ensures value { result ≡ past_ripe_of (P.closing policy.now) (setting_of self.now.terms) (box_of self.now) }
         ensures near { result ≤ 4000000001 * frames_of self.now.terms.rate }
     {
         let front = self.front;
@@ -50,7 +50,7 @@ impl Engine {
 
     // Moves the front past the highest ripe slot, and then past each complete one.
     pub(crate) fn settle<P: Policy>(&mut self, policy: &P)
-        ensures next { box_of self.new ≡ settled (closing policy.now) (setting_of self.old.terms) (box_of self.old) }
+        ensures next { box_of self.new ≡ settled (P.closing policy.now) (setting_of self.old.terms) (box_of self.old) }
         ensures terms { self.new.terms ≡ self.old.terms }
     {
         let ripe = self.past_ripe(policy);

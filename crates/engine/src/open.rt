@@ -74,9 +74,9 @@ impl Engine {
 
     // An engine of the plan under the policy, from the reading on; against a refusal it is shut.
     pub fn open<P: Policy>(plan: &Plan, policy: &P, reading: u64) -> Engine
-        ensures shut { result.terms.shut ≡ open_fault (plan_of plan.now) (bound policy.now) reading }
+        ensures shut { result.terms.shut ≡ open_fault (plan_of plan.now) (P.bound policy.now) reading }
         ensures setting { result.terms.shut ≡ None → setting_of result.terms ≡ open_setting (plan_of plan.now) reading }
-        ensures opens { result.terms.shut ≡ None → box_of result ≡ opened (closing policy.now) (open_setting (plan_of plan.now) reading) reading }
+        ensures opens { result.terms.shut ≡ None → box_of result ≡ opened (P.closing policy.now) (open_setting (plan_of plan.now) reading) reading }
     {
         match opening_rate(plan, policy.longest_wait(), reading) {
             Err(fault) => Engine::begin(Terms::refused(plan, fault), 0),

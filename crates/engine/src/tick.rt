@@ -27,7 +27,7 @@ impl Engine {
     // reading. One that is lower than the latest counts as that.
     pub fn tick<P: Policy>(&mut self, policy: &P, reading: u64) -> Result<u64, Fault>
         ensures answer { result ≡ unless_shut self.old.terms.shut (tick_said (box_of self.old) reading) }
-        ensures next { box_of self.new ≡ if_open self.old.terms.shut (box_of self.old) (ticked (closing policy.now) (setting_of self.old.terms) (box_of self.old) reading) }
+        ensures next { box_of self.new ≡ if_open self.old.terms.shut (box_of self.old) (ticked (P.closing policy.now) (setting_of self.old.terms) (box_of self.old) reading) }
         ensures terms { self.new.terms ≡ self.old.terms }
     {
         self.check()?;

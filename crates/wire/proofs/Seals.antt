@@ -1,6 +1,6 @@
 -- A frame's last two bytes made its check word.
-use Rattle.std.proofs.Common.{◌≡◌, ℕ, ◌+◌, ◌-◌, ◌/◌, ◌%◌, ◌^◌, ◌<◌, ◌≤◌, true, ltb, List, [], ◌∷◌, ◌++◌, length, get_or, take, drop, sym, refl, ap, ◌∙◌, append_assoc, arith, length-append, length-drop}
-use Rattle.std.proofs.lemmas.List.{get_or_at, get_or-append-add, take_at, take-take, drop_at, drop_all, drop-drop, append-nil, length-take-le}
+use Rattle.std.proofs.Common.{◌≡◌, ℕ, ◌+◌, ◌-◌, ◌/◌, ◌%◌, ◌^◌, ◌<◌, ◌≤◌, true, ltb, List, [], ◌∷◌, ◌++◌, length, get_or, take, drop, sym, refl, ap, ◌∙◌, arith, length-append, length-drop}
+use Rattle.std.proofs.lemmas.List.{get_or_at, get_or-append-add, take_at, take-take, drop_at, drop_all, drop-drop, length-take-le}
 use Rattle.std.proofs.lemmas.Bool.{cond-false, le-ltb, eq-eqb}
 use Rattle.crc.specs.CheckWord.{check_word_of}
 use Rattle.crc.proofs.Bounds.{check_word_lt}

@@ -4,7 +4,7 @@ use Rattle.engine.specs.Closing.{ripe, highest}
 use Rattle.engine.specs.Views.{setting_of, box_of}
 use Rattle.engine.proofs.Fronts.{near, highest_here, highest_less, highest-within}
 use Rattle.engine.proofs.engine.Engine.past_ripe.Goals as goal
-use Rattle.engine.proofs.engine.Engine.past_ripe.Goals.{then-loop-end-test+else-not-is_ripe, else_loop-end-test}
+use Rattle.engine.proofs.engine.Engine.past_ripe.Goals.{then-loop-end-test+else-not-is_ripe, else-loop-end-test}
 
 pub loop-end-init : goal.loop-end-init
 loop-end-init g c =
@@ -36,6 +36,6 @@ returns g c =
           (let one : e ≡ e - 1 + 1 = omega (arith, w.loop-end-test.true) in
           let top = ap (highest t) one ∙ (highest_here t (e - 1) (sym w.if-not-is_ripe.ensures) ∙ sym one) in
           omega (arith, top))
-      | else_loop-end-test w ↦ (let h = highest-within t e in omega (arith, h, w.loop-end-test.false))
+      | else-loop-end-test w ↦ (let h = highest-within t e in omega (arith, h, w.loop-end-test.false))
     ] in
     record { value = c.max.ensures ∙ (value ∙ i.0); near = omega (arith, c.max.ensures, i.1) }
