@@ -1,13 +1,12 @@
 -- A tick that was accepted, and a frame that was pulled, as steps of the whole.
-use Rattle.std.proofs.Common.{◌≡◌, ℕ, Bool, true, false, cond, List, [], ◌∷◌, length, take, Some, None, Ok, Err, Option, Result, sym, refl, ap, ◌∙◌, arith}
+use Rattle.std.proofs.Common.{◌≡◌, ℕ, false, cond, List, [], ◌∷◌, length, take, None, Ok, Result, sym, ap, ◌∙◌}
 use Rattle.common.specs.declared.fault.Fault.{Fault}
-use Rattle.common.specs.declared.ids.Port.{Port}
 use Rattle.feed.specs.declared.feed.Taken.{Taken}
 use Rattle.feed.specs.Feeds.{Waiting, Tick, Next, Behaviour, after}
-use Rattle.feed.specs.Calls.{short, tick_left, next_said, next_buffer, next_left, first_over}
-use Rattle.feed.proofs.Nexts.{Came, came, Nexted, Got, got}
+use Rattle.feed.specs.Calls.{short, tick_left}
+use Rattle.feed.proofs.Nexts.{came, Nexted, Got, got}
 use Rattle.engine.specs.declared.terms.Terms.{Terms}
-use Rattle.engine.specs.Boxes.{Setting, Closing, Box}
+use Rattle.engine.specs.Boxes.{Closing, Box}
 use Rattle.engine.specs.Closing.{settled}
 use Rattle.engine.specs.Calls as on
 use Rattle.engine.specs.Views.{setting_of}

@@ -2,9 +2,8 @@
 use Rattle.std.specs.Prelude.{ℕ, cond, List, [], ◌∷◌, length, Ok, Err, Result}
 use Rattle.common.specs.declared.fault.Fault.{Fault}
 use Rattle.common.specs.declared.fault.Fault.TheVariants.{Buffer, Exhausted, NothingWaits}
-use Rattle.feed.specs.Feeds.{Waiting, Tick, Next, Behaviour, after}
+use Rattle.feed.specs.Feeds.{Waiting, Tick, Next, after}
 use Rattle.feed.specs.Calls.{short, first_over}
-use Rattle.engine.specs.Boxes.{Box}
 use Rattle.engine.specs.Closing.{settled}
 use Rattle.engine.specs.Calls as on
 use Rattle.concentrator.specs.declared.calls.Pulled.{Pulled}

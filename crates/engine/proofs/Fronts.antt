@@ -1,5 +1,5 @@
 -- How far the front moves.
-use Rattle.std.proofs.Common.{◌≡◌, ℕ, zero, suc, ◌+◌, ◌-◌, ◌*◌, ◌<◌, ◌≤◌, max, Bool, true, false, cond, sym, refl, ap, ◌∙◌, mul-le-mul_right, add-one, arith}
+use Rattle.std.proofs.Common.{◌≡◌, ℕ, zero, suc, ◌+◌, ◌-◌, ◌*◌, ◌<◌, ◌≤◌, Bool, true, false, cond, sym, refl, ap, mul-le-mul_right, add-one, arith}
 use Rattle.slots.specs.Slots.{first_slot, last_slot_at}
 use Rattle.engine.specs.Closing.{highest, beyond}
 

@@ -1,5 +1,5 @@
 -- What a passed check of an engine tells.
-use Rattle.std.proofs.Common.{◌≡◌, ℕ, Some, None, Ok, Err, Option, Result, refl, arith}
+use Rattle.std.proofs.Common.{◌≡◌, ℕ, Some, None, Ok, Option, refl, arith}
 use Rattle.common.specs.declared.fault.Fault.{Fault}
 use Rattle.engine.specs.Calls.{unless_shut}
 

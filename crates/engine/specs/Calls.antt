@@ -1,5 +1,5 @@
 -- What each call answers, and what it leaves.
-use Rattle.std.specs.Prelude.{ℕ, suc, ◌+◌, max, Bool, false, cond, not, ◌&&◌, ◌||◌, List, [], length, is_some, Some, None, Ok, Err, Option, Result, ◌==◌, nat_le, nat_lt}
+use Rattle.std.specs.Prelude.{ℕ, suc, ◌+◌, max, Bool, false, cond, not, ◌&&◌, ◌||◌, List, length, is_some, Some, None, Ok, Err, Option, Result, ◌==◌, nat_le, nat_lt}
 use Rattle.common.specs.declared.fault.Fault.{Fault}
 use Rattle.common.specs.declared.fault.Fault.TheVariants as fault
 use Rattle.common.specs.Faults.{number}
@@ -7,7 +7,7 @@ use Rattle.slots.specs.Slots.{first_slot, window_fits}
 use Rattle.plan.specs.Plans.{PlanOf}
 use Rattle.sample.specs.Samples.{SampleOf, sample_of}
 use Rattle.cells.specs.Cells.{or_else}
-use Rattle.combined.specs.Blocks.{Block, Blocks, port_at}
+use Rattle.combined.specs.Blocks.{port_at}
 use Rattle.combined.specs.Frames.{slot_frame, slot_length}
 use Rattle.engine.specs.Boxes.{Setting, Closing, Box, stamp, oldest}
 use Rattle.engine.specs.Closing.{settled, settled_by}

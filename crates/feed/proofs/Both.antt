@@ -1,9 +1,7 @@
 -- A joined feed has what its two parts have.
-use Rattle.std.proofs.Common.{◌≡◌, ℕ, List, [], ◌∷◌, ◌++◌, refl, ap}
+use Rattle.std.proofs.Common.{◌≡◌, ℕ, List, [], ◌∷◌, refl, ap}
 use Rattle.feed.specs.Feeds.{Waiting, Op, Tick, Next, Behaviour, after}
-use Rattle.feed.specs.Calls.{pick}
-use Rattle.feed.specs.Joined.{joined}
-use Rattle.feed.specs.Sides.{ticks_of, Sides, BothWait}
+use Rattle.feed.specs.Sides.{Sides, BothWait}
 
 -- a next goes to one of the two
 by-pick : (a b : Behaviour) (ops : List Op) (v : List Waiting) → a [] ≡ v → Sides (after a Next) b ops → Sides a (after b Next) ops → Sides a b (Next ∷ ops)

@@ -1,13 +1,13 @@
 -- What a next that succeeded tells, and what becomes of it under a layer.
-use Rattle.std.proofs.Common.{◌≡◌, ℕ, Bool, true, false, cond, List, [], ◌∷◌, ◌++◌, map, length, take, drop, Ok, Err, Result, sym, refl, ap, ◌∙◌, arith}
+use Rattle.std.proofs.Common.{◌≡◌, ℕ, Bool, true, false, cond, List, [], ◌∷◌, ◌++◌, length, take, drop, Ok, Err, Result, sym, refl, ap, ◌∙◌, arith}
 use Rattle.std.proofs.lemmas.List.{take_at, drop_at}
 use Rattle.common.specs.declared.fault.Fault.{Fault}
 use Rattle.common.specs.declared.fault.Fault.TheVariants.{Buffer}
 use Rattle.fields.specs.Fields.{over}
 use Rattle.feed.specs.declared.feed.Taken.{Taken}
-use Rattle.feed.specs.Feeds.{Waiting, Op, Next, Behaviour, after}
+use Rattle.feed.specs.Feeds.{Waiting, Next, Behaviour, after}
 use Rattle.feed.specs.Calls.{short, first_of, next_said, next_buffer, next_left}
-use Rattle.feed.specs.Maps.{Map, changed, mapped}
+use Rattle.feed.specs.Maps.{Map, mapped}
 
 abbrev taken_of : Waiting → Taken
 taken_of w = record { port = record { 0 = w.port }; len = length w.bytes }

@@ -4,7 +4,7 @@ use Rattle.common.specs.declared.fault.Fault.{Fault}
 use Rattle.common.specs.declared.fault.Fault.TheVariants.{Buffer, NothingWaits}
 use Rattle.fields.specs.Fields.{over}
 use Rattle.feed.specs.declared.feed.Taken.{Taken}
-use Rattle.feed.specs.Feeds.{Waiting, Op, Tick, Next, Behaviour, after}
+use Rattle.feed.specs.Feeds.{Waiting, Tick, Next, Behaviour, after}
 
 -- a buffer that cannot hold every frame
 abbrev pub short : List ℕ → Bool

@@ -1,6 +1,6 @@
 -- Two feeds joined: what waits at the first, then what waits at the second.
 use Rattle.std.specs.Prelude.{◌≡◌, ℕ, List, [], ◌∷◌, ◌++◌, refl}
-use Rattle.std.proofs.Common.{sym, ◌∙◌, ap, subst}
+use Rattle.std.proofs.Common.{◌∙◌, ap}
 use Rattle.std.proofs.Math.Path.{fun_ext}
 use Rattle.feed.specs.Feeds.{Waiting, Op, Tick, Next, Behaviour, after, rest, Within, AllCarried, Lawful, Meaning}
 use Rattle.feed.specs.Calls.{pick}

@@ -1,5 +1,5 @@
 -- Lists of waiting frames: one within another, and what a feed can carry.
-use Rattle.std.specs.Prelude.{◌≡◌, List, [], ◌∷◌, ◌++◌, refl}
+use Rattle.std.specs.Prelude.{List, [], ◌∷◌, ◌++◌}
 use Rattle.feed.specs.Feeds.{Waiting, Op, Behaviour, after, Within, within_none, within_more, within_both, AllCarried, Lawful}
 
 pub within_same : (xs : List Waiting) → Within xs xs

@@ -1,5 +1,5 @@
 -- Feeds that are machines: a state, what an operation makes of it, and what waits in it.
-use Rattle.std.specs.Prelude.{◌≡◌, ℕ, List, [], ◌∷◌, ◌++◌, refl}
+use Rattle.std.specs.Prelude.{◌≡◌, ℕ, List, [], ◌∷◌, ◌++◌}
 use Rattle.std.proofs.Common.{ap}
 use Rattle.feed.specs.Feeds.{Waiting, Op, Tick, Next, Behaviour, rest, Within, AllCarried, Lawful}
 

@@ -1,7 +1,7 @@
 -- Layers that change the frames of a feed one by one: each keeps its line and its length.
-use Rattle.std.specs.Prelude.{◌≡◌, ℕ, ◌≤◌, List, [], ◌∷◌, ◌++◌, map, length, refl}
-use Rattle.std.proofs.Common.{sym, ◌∙◌, ap, subst, arith}
-use Rattle.feed.specs.Feeds.{Waiting, Op, Tick, Next, Behaviour, rest, Within, within_none, within_more, within_both, Carried, AllCarried, Lawful, Meaning}
+use Rattle.std.specs.Prelude.{◌≡◌, ℕ, ◌≤◌, List, [], ◌∷◌, map, length, refl}
+use Rattle.std.proofs.Common.{◌∙◌, ap, arith}
+use Rattle.feed.specs.Feeds.{Waiting, Behaviour, rest, Within, within_none, within_more, within_both, Carried, AllCarried, Lawful, Meaning}
 
 -- what becomes of a frame of a line, with as many bytes as it had
 pub record Map : Type 0 where

@@ -4,7 +4,7 @@ use Rattle.std.proofs.lemmas.Bool.{cases_Bool, ne_eqb, le-leb, lt-leb}
 use Rattle.std.proofs.lemmas.Bool.Decides.{leb_tells, eqb_tells}
 use Rattle.laws.specs.Setting.{Setting, Sort, Fault, Slot}
 use Rattle.feed.specs.Feeds.{Behaviour, Waiting, Op, Tick, Next, Within, within_none, within_more, within_both, rest, Lawful}
-use Rattle.laws.specs.Journal.{Past, start, ◌▹◌, Call, Ticking, Admitting, Pulling, Taking, Writing, Counting, Source, Host, Feed, Event, Took, Told, Refused, Journal, one, latest, tally, total, refused, judged, ticket_out, admitted, added, ops}
+use Rattle.laws.specs.Journal.{Past, start, ◌▹◌, Call, Ticking, Admitting, Pulling, Taking, Writing, Counting, Source, Host, Feed, Event, Took, Told, Refused, Journal, one, latest, tally, total, judged, ticket_out, admitted, added, ops}
 use Rattle.laws.specs.Machine.{State, settled_by, put, placed, tallied, without, next, state, journal}
 use Rattle.laws.specs.Answers.{Counts}
 use Rattle.laws.proofs.Inv.{Inv, run}

@@ -4,7 +4,7 @@ use mathlib.Core.Path.{fun_ext}
 use Rattle.std.proofs.lemmas.Bool.{cases_lt, cases_Bool, lt-ltb, le-ltb, le-leb, lt-leb, eq-eqb, or_right}
 use Rattle.laws.specs.Setting.{Setting, Sort}
 use Rattle.feed.specs.Feeds.{Behaviour}
-use Rattle.laws.specs.Journal.{Past, start, ◌▹◌, Call, Ticking, Admitting, Pulling, Taking, Writing, Counting, Source, Host, Feed, Event, Ticked, Took, Lent, Wrote, Told, Refused, Journal, latest, accepted, Closed, judged}
+use Rattle.laws.specs.Journal.{Past, start, ◌▹◌, Call, Ticking, Admitting, Pulling, Taking, Writing, Counting, Source, Host, Feed, Event, Ticked, Took, Lent, Wrote, Told, Refused, Journal, Closed, judged}
 use Rattle.laws.specs.Answers.{Open, Verdict, From, Due, Right}
 use Rattle.laws.specs.Answers
 use Rattle.laws.specs.Machine.{judge_in, judge, limit, pulls, is_out, event, state, journal}

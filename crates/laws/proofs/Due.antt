@@ -3,7 +3,7 @@ use Rattle.std.proofs.Common.{◌≡◌, ℕ, ◌+◌, ◌≤◌, List, sym, ref
 use Rattle.std.proofs.lemmas.Bool.{cases_lt}
 use Rattle.laws.specs.Setting.{Setting, Sort}
 use Rattle.feed.specs.Feeds.{Behaviour}
-use Rattle.laws.specs.Journal.{Past, start, ◌▹◌, Call, Source, Event, Lent, Refused, latest, writes, judged}
+use Rattle.laws.specs.Journal.{Past, start, ◌▹◌, Call, Source, Event, Lent, Refused, writes}
 use Rattle.laws.specs.Answers.{Open, Verdict, From, Due, Right}
 use Rattle.laws.specs.Answers
 use Rattle.laws.specs.Machine.{state, journal}

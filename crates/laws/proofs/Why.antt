@@ -4,7 +4,7 @@ use Rattle.std.proofs.lemmas.Bool.{cases_Bool, both_ways, eqb-true, eqb-false}
 use Rattle.std.proofs.lemmas.Bool.Decides.{leb_tells}
 use Rattle.laws.specs.Setting.{Setting, Sort, Fault, Slot}
 use Rattle.feed.specs.Feeds.{Waiting}
-use Rattle.laws.specs.Journal.{Call, Ticking, Admitting, Pulling, Taking, Writing, Counting, Source, Host, Feed, Event, Ticked, Took, Lent, Wrote, Told, Refused, latest}
+use Rattle.laws.specs.Journal.{Call, Ticking, Admitting, Pulling, Taking, Writing, Counting, Source, Host, Feed, Event, Ticked, Took, Lent, Wrote, Told, Refused}
 use Rattle.laws.specs.Machine.{State, oldest, judge_in, judge, limit, pulls, lends, is_out, event}
 
 -- why a verdict was given

@@ -7,7 +7,7 @@ use Rattle.wire.specs.Frames.{of_config2, classified, body_of}
 use Rattle.config.specs.Configs.{configured, parts_of}
 use Rattle.plan.specs.Plans.{parts_in}
 use Rattle.plan.specs.Publish.{publishes}
-use Rattle.plan.specs.Runs.{Call, State, start, publishing, after_call, after_calls, accepted, stations_of}
+use Rattle.plan.specs.Runs.{Call, start, publishing, after_call, after_calls, accepted, stations_of}
 
 -- a frame is sound, is a configuration 2 of the sender id, and describes just the stations of the given frames, in their order: read, and byte by byte
 pub record Combines (frame : List ℕ) (id rate : ℕ) (frames : List (List ℕ)) : Type 0 where

@@ -1,5 +1,5 @@
 -- Lists of adds and publishes on one plan and one buffer, from the beginning of the plan.
-use Rattle.std.specs.Prelude.{ℕ, cond, List, [], ◌∷◌, ◌++◌, length, take, Ok, Err, Result}
+use Rattle.std.specs.Prelude.{ℕ, List, [], ◌∷◌, ◌++◌, length, Ok, Err, Result}
 use Rattle.common.specs.declared.fault.Fault.{Fault}
 use Rattle.config.specs.declared.station.Station.{Station}
 use Rattle.config.specs.Configs.{Says, configured}

@@ -1,7 +1,7 @@
 -- Feeds whose lines are led to ports: a frame keeps its bytes, and has its port's number in place of its line's.
-use Rattle.std.specs.Prelude.{◌≡◌, ℕ, ◌≤◌, min, List, [], ◌∷◌, map, length, slice_index_or, refl}
+use Rattle.std.specs.Prelude.{◌≡◌, ℕ, min, List, [], ◌∷◌, map, slice_index_or, refl}
 use Rattle.std.proofs.Common.{◌∙◌, ap, arith}
-use Rattle.feed.specs.Feeds.{Waiting, Behaviour, rest, Within, within_none, within_more, within_both, Carried, AllCarried, Lawful, Meaning}
+use Rattle.feed.specs.Feeds.{Waiting, Behaviour, rest, Within, within_none, within_more, within_both, AllCarried, Lawful, Meaning}
 
 -- the port that a line is led to, from a list of them
 abbrev pub port_at : List ℕ → ℕ → ℕ

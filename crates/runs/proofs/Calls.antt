@@ -1,15 +1,14 @@
 -- Each call of the concentrator answers and leaves what the machine does.
-use Rattle.std.proofs.Common.{◌≡◌, ℕ, suc, ◌+◌, ◌<◌, ◌≤◌, max, Bool, true, false, cond, not, ◌||◌, eqb, ltb, leb, List, [], ◌∷◌, ◌++◌, length, take, drop, is_some, Some, None, Ok, Err, Option, Result, sym, refl, ap, ◌∙◌, subst, inl, inr, arith}
+use Rattle.std.proofs.Common.{◌≡◌, ℕ, ◌+◌, max, Bool, true, false, cond, not, eqb, ltb, leb, List, [], ◌∷◌, length, drop, is_some, Some, None, Ok, Err, Option, Result, sym, refl, ap, ◌∙◌, arith}
 use lib.Seq.{take-append_seam}
 use Rattle.std.proofs.lemmas.Bool.{ne_eqb}
 use Rattle.common.specs.declared.fault.Fault as the_fault
 use Rattle.common.specs.declared.fault.Fault.TheVariants as fault
 use Rattle.common.specs.Faults.{number}
 use Rattle.combined.specs.Frames.{slot_length}
-use Rattle.feed.specs.Feeds.{Waiting, Tick, Next, Behaviour, after}
+use Rattle.feed.specs.Feeds.{Waiting, Tick, after}
 use Rattle.feed.specs.Calls.{first_over}
 use Rattle.engine.specs.Boxes as E
-use Rattle.engine.specs.Closing as C
 use Rattle.engine.specs.Calls as K
 use Rattle.concentrator.specs.Wholes as W
 use Rattle.concentrator.specs.Calls as Q

@@ -3,7 +3,7 @@ use Rattle.std.proofs.Common.{◌≡◌, ℕ, List, [], ◌∷◌, None, sym, re
 use Rattle.feed.specs.Feeds.{Behaviour}
 use Rattle.engine.specs.Boxes as E
 use Rattle.engine.specs.Calls.{open_setting}
-use Rattle.concentrator.specs.Wholes.{Whole, begins}
+use Rattle.concentrator.specs.Wholes.{Whole}
 use Rattle.laws.specs.Setting.{Setting}
 use Rattle.laws.specs.Journal.{start, Event}
 use Rattle.laws.specs.Answers.{Right}
@@ -12,7 +12,7 @@ use Rattle.laws.proofs.Stand.{runs, keeps}
 use Rattle.runs.specs.Settings.{Opened, setting}
 use Rattle.runs.specs.Events.{whole_of}
 use Rattle.runs.specs.Requests.{Request, ticking, admitting, pulling, taking, writing, call_of, calls_of, event_of, leaves, journal_of}
-use Rattle.runs.specs.Laws.{Opens, Kept, CallsKeepTheLaw}
+use Rattle.runs.specs.Laws.{CallsKeepTheLaw}
 use Rattle.runs.proofs.Following.{opened-same}
 use Rattle.runs.proofs.Calls.{tick-answer, tick-next, admit_answer, admit_next, pull_answer, pull_next, take-answer, take_next, write-answer, write-next}
 use Rattle.runs.proofs.Openings.{opened-facts}

@@ -1,24 +1,19 @@
 -- The engine's slots follow those of the machine.
-use Rattle.std.proofs.Common.{◌≡◌, ℕ, zero, suc, ◌+◌, ◌-◌, ◌<◌, ◌≤◌, max, Bool, true, false, cond, not, ◌&&◌, eqb, ltb, leb, List, length, is_some, Some, None, Ok, Err, Option, Result, sym, refl, ap, ◌∙◌, subst, inl, inr, arith}
+use Rattle.std.proofs.Common.{◌≡◌, ℕ, zero, suc, ◌+◌, ◌-◌, max, Bool, true, false, cond, not, ◌&&◌, eqb, ltb, leb, List, length, is_some, Some, None, Ok, Err, Option, Result, sym, refl, ap, ◌∙◌, subst, inl, inr}
 use mathlib.Core.Path.{fun_ext}
 use Rattle.std.specs.Option.{option_map}
-use Rattle.std.proofs.lemmas.Bool.{cases_Bool, cases_lt, le-ltb, ne_eqb}
 use Rattle.std.proofs.lemmas.Bool.Decides.{eqb_tells}
 use Rattle.common.specs.declared.fault.Fault as the_fault
 use Rattle.common.specs.declared.fault.Fault.TheVariants as fault
 use Rattle.common.specs.Faults.{number}
 use Rattle.feed.specs.Feeds.{Behaviour}
 use Rattle.cells.specs.Cells.{all_of}
-use Rattle.policy.specs.Policies.{held as held_reading, held_by}
-use Rattle.slots.specs.Slots.{first_slot, window_fits, stamp_of, last_slot_at}
-use Rattle.slots.proofs.Stamped.{first-slot, last-slot, window_spans}
 use Rattle.sample.specs.Samples.{SampleOf}
-use Rattle.combined.specs.Blocks.{Block, Blocks, port_at}
-use Rattle.combined.specs.Frames.{slot_frame, slot_length}
+use Rattle.combined.specs.Blocks.{port_at}
 use Rattle.engine.specs.Boxes as E
 use Rattle.engine.specs.Closing as C
 use Rattle.engine.specs.Calls as K
-use Rattle.laws.specs.Setting.{Setting, Contents, Sort, Fault, Slot}
+use Rattle.laws.specs.Setting.{Setting, Contents, Slot}
 use Rattle.laws.specs.Journal as J
 use Rattle.laws.specs.Machine as M
 use Rattle.runs.specs.Models.{sort_of, block_by, block_of, blocks_of, box_of}

@@ -1,5 +1,5 @@
 -- The engine's combined frames are laid out port by port.
-use Rattle.std.proofs.Common.{◌≡◌, ℕ, zero, suc, ◌+◌, ◌<◌, Bool, true, false, cond, ltb, List, [], ◌∷◌, ◌++◌, length, get_or, Some, None, Ok, Err, Option, Result, sym, refl, ap, ◌∙◌, subst, inl, inr, append_assoc, append-nil, add-one, arith, length-append}
+use Rattle.std.proofs.Common.{◌≡◌, ℕ, suc, ◌+◌, ltb, List, [], ◌∷◌, ◌++◌, length, Some, None, Ok, Err, Option, Result, sym, refl, ap, ◌∙◌, append_assoc, append-nil, add-one, arith, length-append}
 use lib.Seq.{get_or-append_seam}
 use Rattle.std.specs.Option.{option_map}
 use Rattle.common.specs.declared.fault.Fault as the_fault
@@ -11,9 +11,9 @@ use Rattle.wire.specs.Frames.{header_for, sealed}
 use Rattle.layout.specs.Blocks.{data_length}
 use Rattle.layout.proofs.Lengths.{length_blocks}
 use Rattle.plan.specs.Ports.{PortOf, body_length}
-use Rattle.sample.specs.Samples.{SampleOf, sample_of}
+use Rattle.sample.specs.Samples.{SampleOf}
 use Rattle.sample.proofs.Fits.{passed, sample_fits}
-use Rattle.combined.specs.Blocks.{Block, Blocks, port_at}
+use Rattle.combined.specs.Blocks.{port_at}
 use Rattle.combined.specs.Frames.{block_bytes, body_from, quality_of, slot_tag, slot_frame}
 use Rattle.engine.specs.Boxes as E
 use Rattle.engine.specs.Calls as K

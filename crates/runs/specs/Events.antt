@@ -1,5 +1,5 @@
 -- What the concentrator's calls answer, as events of a journal.
-use Rattle.std.specs.Prelude.{ℕ, cond, List, length, take, None, Ok, Err, Result, ◌==◌}
+use Rattle.std.specs.Prelude.{ℕ, cond, List, take, None, Ok, Err, Result, ◌==◌}
 use Rattle.common.specs.declared.fault.Fault as the_fault
 use Rattle.common.specs.Faults.{number}
 use Rattle.engine.specs.Boxes as E

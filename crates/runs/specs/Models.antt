@@ -1,5 +1,5 @@
 -- The engine's model as the machine that the law is about: frames in place of the blocks that they give.
-use Rattle.std.specs.Prelude.{◌≡◌, ℕ, suc, ◌+◌, ◌<◌, ◌≤◌, List, length, Ok, Err, Option, Result}
+use Rattle.std.specs.Prelude.{ℕ, List, Ok, Err, Result}
 use Rattle.std.specs.Option.{option_map}
 use Rattle.common.specs.declared.fault.Fault as the_fault
 use Rattle.common.specs.Faults.{number}
@@ -7,10 +7,9 @@ use Rattle.layout.specs.Blocks.{absent_blocks}
 use Rattle.plan.specs.Ports.{PortOf}
 use Rattle.sample.specs.Samples.{SampleOf}
 use Rattle.combined.specs.Blocks.{Block, Blocks, port_at}
-use Rattle.combined.specs.Frames.{slot_frame, slot_length}
 use Rattle.engine.specs.Boxes as E
 use Rattle.engine.specs.Calls.{sound_at}
-use Rattle.laws.specs.Setting.{Setting, Contents, Sort, Fault, Slot}
+use Rattle.laws.specs.Setting.{Contents, Sort, Fault, Slot}
 use Rattle.laws.specs.Machine.{State}
 
 -- what a frame is by itself

@@ -1,6 +1,6 @@
 -- A frame that is refused by itself is refused by a number from 1 to 19.
-use Rattle.std.specs.Prelude.{◌≡◌, ℕ, ◌/◌, ◌%◌, ◌<◌, Bool, true, false, cond, List, length, Some, None, Ok, Err, Option, Result, ◌==◌, nat_lt, refl}
-use Rattle.std.proofs.Common.{sym, subst, arith}
+use Rattle.std.specs.Prelude.{◌≡◌, ℕ, ◌/◌, ◌%◌, ◌<◌, Bool, true, false, cond, List, length, Some, None, Ok, Err, Option, Result, ◌==◌, nat_lt}
+use Rattle.std.proofs.Common.{arith}
 use Rattle.common.specs.declared.fault.Fault as the_fault
 use Rattle.common.specs.declared.fault.Fault.TheVariants as fault
 use Rattle.common.specs.Faults.{number}
@@ -15,11 +15,11 @@ use Rattle.wire.specs.Frames.{Told, of_data, of_config2, of_other, telling, body
 use Rattle.layout.specs.Blocks.{data_length}
 use Rattle.plan.specs.Ports.{PortOf}
 use Rattle.slots.specs.Slots.{slot_of}
-use Rattle.sample.specs.Samples.{SampleOf, data_body_of, sent_by, in_slot, placed, bodied, sample_of}
+use Rattle.sample.specs.Samples.{SampleOf, data_body_of, sent_by, in_slot, bodied, sample_of}
 use Rattle.combined.specs.Blocks.{port_at}
 use Rattle.engine.specs.Boxes as E
 use Rattle.engine.specs.Calls as K
-use Rattle.laws.specs.Setting.{Sort, Fault, Slot}
+use Rattle.laws.specs.Setting.{Fault}
 use Rattle.runs.specs.Models.{sort_of}
 
 abbrev Small : {A : Type 0} → Result A the_fault.Fault → Type 0

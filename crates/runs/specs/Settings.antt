@@ -8,7 +8,7 @@ use Rattle.slots.proofs.Stamped.{first-slot, last-slot, window_spans}
 use Rattle.combined.specs.Frames.{slot_frame, slot_length}
 use Rattle.engine.specs.Boxes as E
 use Rattle.engine.specs.Calls as K
-use Rattle.laws.specs.Setting.{Setting, Contents, Sort, Fault, Slot}
+use Rattle.laws.specs.Setting.{Setting, Fault, Slot}
 use Rattle.runs.specs.Models.{sort_of, blocks_of}
 use Rattle.runs.specs.Numbered.{numbered}
 

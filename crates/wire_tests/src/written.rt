@@ -70,7 +70,7 @@ fn every_type_comes_back(rt: HostRuntime) -> Result<(), Fail> {
             }
             Frame::Other(body) => body,
         };
-        assert!(rt; body == b"abc");
+        assert!(rt; body == b"abc".as_slice());
     }
     Ok(())
 }

@@ -1,9 +1,8 @@
-use Rattle.std.proofs.Common.{◌≡◌, ℕ, ◌≤◌, Bool, true, false, cond, not, ◌&&◌, ◌||◌, eqb, leb, List, map, length, Some, None, sym, refl, ap, ◌∙◌, arith, le-ltb}
+use Rattle.std.proofs.Common.{◌≡◌, ℕ, ◌≤◌, Bool, true, false, cond, ◌&&◌, eqb, leb, length, Some, None, sym, refl, ap, ◌∙◌, arith, le-ltb}
 use Rattle.std.specs.Bool.{then_some}
 use Rattle.common.specs.declared.fault.Fault.TheVariants.{WaitTooLong}
 use Rattle.plan.specs.Views.{plan_of}
 use Rattle.plan.specs.Plans.{PlanOf}
-use Rattle.plan.specs.Tables.{port_of}
 use Rattle.slots.specs.Slots.{rate_from, window_fits}
 use Rattle.combined.proofs.Bodies.{length-ports}
 use Rattle.engine.specs.Calls.{open_fault}

@@ -1,4 +1,4 @@
-use Rattle.std.proofs.Common.{◌≡◌, ℕ, sym, ◌∙◌, arith}
+use Rattle.std.proofs.Common.{sym, ◌∙◌, arith}
 use Rattle.config.specs.declared.station.Station.{Station}
 use Rattle.plan.proofs.Finds.{place_here, place-next, place_none}
 use Rattle.plan.proofs.find.position.Goals as goal

@@ -1,4 +1,4 @@
-use Rattle.std.proofs.Common.{◌≡◌, ℕ, length, Ok, sym, ◌∙◌, arith, le-ltb}
+use Rattle.std.proofs.Common.{◌≡◌, ℕ, length, Ok, ◌∙◌, arith, le-ltb}
 use Rattle.engine.specs.Views.{box_of}
 use Rattle.engine.proofs.Shuts.{opens}
 use Rattle.concentrator.proofs.Steps.{tick_said_lem, tick-next}

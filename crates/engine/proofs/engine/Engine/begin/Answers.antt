@@ -1,7 +1,5 @@
-use Rattle.std.proofs.Common.{◌≡◌, ℕ, ◌+◌, false, cond, Some, None, Option, refl, ap, ◌∙◌, add-zero}
+use Rattle.std.proofs.Common.{◌+◌, refl}
 use Rattle.plan.specs.Tables.{ports_of}
-use Rattle.combined.specs.Blocks.{Blocks}
-use Rattle.engine.specs.Boxes.{Box}
 use Rattle.engine.proofs.Rings.{Bare, bare_held, bare_arrived, no_tally}
 use Rattle.engine.proofs.engine.Engine.begin.Goals as goal
 

@@ -1,6 +1,6 @@
-use Rattle.std.proofs.Common.{◌≡◌, ℕ, ◌-◌, ◌^◌, min, leb, sym, ap, ◌∙◌, arith}
+use Rattle.std.proofs.Common.{◌≡◌, ℕ, ◌-◌, ◌^◌, min, ap, ◌∙◌, arith}
 use Rattle.slots.specs.Slots.{frames_of, stamp_of}
-use Rattle.policy.specs.Policies.{held, held_by}
+use Rattle.policy.specs.Policies.{held}
 use Rattle.engine.proofs.engine.Engine.is_ripe.Goals as goal
 
 -- a number that is capped twice is capped by the lower cap

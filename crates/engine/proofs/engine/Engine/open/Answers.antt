@@ -5,7 +5,7 @@ use Rattle.engine.specs.declared.terms.Terms.{Terms}
 use Rattle.engine.specs.Boxes.{Setting}
 use Rattle.engine.specs.Closing.{settled}
 use Rattle.engine.specs.Calls.{begun, opened, open_setting}
-use Rattle.engine.specs.Views.{setting_of, box_of}
+use Rattle.engine.specs.Views.{setting_of}
 use Rattle.engine.proofs.Fronts.{first-near}
 use Rattle.engine.proofs.engine.Engine.open.Goals as goal
 

@@ -1,4 +1,4 @@
-use Rattle.std.proofs.Common.{◌≡◌, ◌+◌, ◌<◌, ◌≤◌, sym, ◌∙◌, arith}
+use Rattle.std.proofs.Common.{◌+◌, ◌<◌, ◌≤◌, sym, ◌∙◌, arith}
 use Rattle.slots.specs.Slots.{frames_of}
 use Rattle.engine.specs.Boxes.{upto}
 use Rattle.engine.specs.Closing.{complete}

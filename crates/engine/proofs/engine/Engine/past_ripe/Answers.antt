@@ -1,4 +1,4 @@
-use Rattle.std.proofs.Common.{◌≡◌, ℕ, ◌+◌, ◌-◌, ◌≤◌, max, sym, ap, ◌∙◌, arith}
+use Rattle.std.proofs.Common.{◌≡◌, ◌+◌, ◌-◌, max, sym, ap, ◌∙◌, arith}
 use Rattle.slots.specs.Slots.{frames_of}
 use Rattle.engine.specs.Closing.{ripe, highest}
 use Rattle.engine.specs.Views.{setting_of, box_of}

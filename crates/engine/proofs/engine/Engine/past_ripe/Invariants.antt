@@ -1,4 +1,4 @@
-use Rattle.std.proofs.Common.{◌≡◌, ℕ, ◌-◌, ◌*◌, ◌≤◌, max}
+use Rattle.std.proofs.Common.{◌≡◌, ◌-◌, ◌*◌, ◌≤◌, max}
 use Rattle.slots.specs.Slots.{frames_of}
 use Rattle.engine.specs.Boxes.{upto}
 use Rattle.engine.specs.Closing.{highest, ripe}

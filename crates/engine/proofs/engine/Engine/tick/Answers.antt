@@ -1,7 +1,7 @@
-use Rattle.std.proofs.Common.{◌≡◌, ℕ, ◌+◌, ◌≤◌, max, false, ◌||◌, Ok, sym, ap, ◌∙◌, arith, le-ltb}
+use Rattle.std.proofs.Common.{◌≡◌, ℕ, ◌+◌, ◌≤◌, max, Ok, ap, ◌∙◌, arith, le-ltb}
 use Rattle.engine.specs.Boxes.{Box}
 use Rattle.engine.specs.Closing.{settled}
-use Rattle.engine.specs.Calls.{tick_said, tick_by, timed}
+use Rattle.engine.specs.Calls.{tick_said, timed}
 use Rattle.engine.specs.Views.{setting_of, box_of}
 use Rattle.engine.proofs.Shuts.{opens}
 use Rattle.engine.proofs.engine.Engine.tick.Goals as goal

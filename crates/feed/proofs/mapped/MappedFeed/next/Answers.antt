@@ -1,4 +1,3 @@
-use Rattle.std.proofs.Common.{[]}
 use Rattle.feed.proofs.Nexts.{map_next}
 use Rattle.feed.proofs.mapped.MappedFeed.next.Goals as goal
 

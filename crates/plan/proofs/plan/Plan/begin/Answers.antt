@@ -1,6 +1,5 @@
-use Rattle.std.proofs.Common.{◌≡◌, sym, ap, arith}
+use Rattle.std.proofs.Common.{sym, ap, arith}
 use Rattle.plan.specs.Ports.{station_count, body_length, parts_length}
-use Rattle.plan.specs.Plans.{PlanOf}
 use Rattle.plan.proofs.plan.Plan.begin.Goals as goal
 
 pub invariant_of-result : goal.invariant_of-result

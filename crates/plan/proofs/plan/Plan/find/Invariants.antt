@@ -1,4 +1,4 @@
-use Rattle.std.proofs.Common.{◌≡◌, map, take, drop}
+use Rattle.std.proofs.Common.{◌≡◌, map, drop}
 use Rattle.plan.specs.Find.{find_in}
 use Rattle.plan.specs.Tables.{port_of}
 use Rattle.plan.proofs.plan.Plan.find.Given as goal

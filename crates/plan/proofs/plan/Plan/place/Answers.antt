@@ -1,9 +1,8 @@
-use Rattle.std.proofs.Common.{◌≡◌, ◌+◌, length, sym, ap, ◌∙◌, arith}
+use Rattle.std.proofs.Common.{length, sym, ap, ◌∙◌, arith}
 use Rattle.layout.specs.Blocks.{data_length}
 use Rattle.std.proofs.lemmas.List.Sums.{sum_by_push}
 use Rattle.plan.specs.Ports.{PortOf, station_count, body_length, parts_length, part_lengths}
 use Rattle.plan.specs.Tables.{port_of, ports_of}
-use Rattle.plan.specs.Plans.{PlanOf}
 use Rattle.plan.proofs.Accepts.{roomy}
 use Rattle.plan.proofs.Room.{length-ports, ports-more}
 use Rattle.plan.proofs.plan.Plan.place.Goals as goal

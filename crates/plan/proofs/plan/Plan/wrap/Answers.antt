@@ -1,9 +1,8 @@
-use Rattle.std.proofs.Common.{◌≡◌, ℕ, ◌+◌, ◌-◌, List, ◌++◌, length, take, drop, sym, refl, ap, ◌∙◌, arith, length-append, length-drop, rules}
+use Rattle.std.proofs.Common.{◌≡◌, ℕ, ◌+◌, ◌-◌, List, ◌++◌, take, drop, refl, ap, ◌∙◌, arith, length-append, length-drop}
 use borrow.Rule.Slice.PartMut.{put_mid}
 use Rattle.std.proofs.lemmas.List.{length-take-le}
 use Rattle.fields.specs.Fields.{put, over, bytes16, bytes32}
 use Rattle.fields.proofs.Puts.{part-put, put-over, put-later}
-use Rattle.wire.specs.declared.header.Header.{Header}
 use Rattle.wire.specs.declared.kind.FrameType.TheVariants.{Config2}
 use Rattle.wire.specs.declared.kind.Version.TheVariants.{Y2011}
 use Rattle.wire.specs.Headers.{header_bytes}

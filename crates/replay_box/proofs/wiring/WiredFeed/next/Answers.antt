@@ -1,6 +1,5 @@
-use Rattle.std.proofs.Common.{[]}
-use Rattle.replay.proofs.Leading.{led-next}
-use Rattle.replay.proofs.wiring.WiredFeed.next.Goals as goal
+use Rattle.replay_box.proofs.Leading.{led-next}
+use Rattle.replay_box.proofs.wiring.WiredFeed.next.Goals as goal
 
 pub returns : goal.returns
 returns g c =
