@@ -6,7 +6,7 @@
 #
 # DIR has NAME.in, a list of calls, and NAME.out, its answers. A list with a call or a feed that the
 # console does not have (lower, counts, stacked) is left out, unless --all is given. The console is
-# target/bin/console, or what CONSOLE names.
+# crates/console/out/console, or what CONSOLE names.
 set -u
 
 usage() {
@@ -21,9 +21,9 @@ if [ "${1-}" = --all ]; then
 fi
 [ $# -eq 1 ] && [ -d "$1" ] || usage
 lists=$1
-console=${CONSOLE-$(dirname "$0")/../target/bin/console}
+console=${CONSOLE-$(dirname "$0")/../crates/console/out/console}
 if [ ! -x "$console" ]; then
-    echo "compare_console.sh: $console is not there: run 'rt check console' first" >&2
+    echo "compare_console.sh: $console is not there: run 'rt run' in crates/console first" >&2
     exit 2
 fi
 

@@ -18,16 +18,18 @@ mod words;
 
 use input::read_lines;
 use run::run;
+use std::process::ExitCode;
 
 fn console(rt: &HostRuntime) -> anyhow::Result<()> {
     let lines = read_lines(rt)?;
     run(rt, lines.as_slice())
 }
 
-fn main(rt: HostRuntime) -> anyhow::Result<()> {
-    let outcome = console(&rt);
-    if let Err(trouble) = &outcome {
-        eprintln!(rt; "console: {trouble}")?;
-    }
-    outcome
+fn main(rt: HostRuntime) -> ExitCode {
+    let Err(trouble) = console(&rt) else {
+        return ExitCode::SUCCESS;
+    };
+    // Where the message cannot be written either, the status alone tells.
+    let _ = eprintln!(rt; "console: {trouble}");
+    ExitCode::FAILURE
 }

@@ -1,6 +1,6 @@
 -- The calls of a recorded feed, with room in the buffer.
 use Rattle.std.proofs.Common.{◌≡◌, ℕ, ◌≤◌, false, List, [], ◌∷◌, ◌++◌, length, drop, Some, Ok, sym, ap, ◌∙◌, subst, arith}
-use Rattle.std.specs.List.{AllByRecursion as All}
+use Rattle.std.specs.List.{AllByRecursion}
 use Rattle.std.proofs.lemmas.Bool.{le-ltb, cond-false}
 use Rattle.capture.specs.Records.{Entry}
 use Rattle.feed.specs.declared.feed.Taken.{Taken}
@@ -31,6 +31,6 @@ took (x ∷ xs) coming e b h f n =
     }
 
 -- what waits, a feed can carry
-pub first_carries : (es : List Entry) (e : Entry) → All Carries es → Some e ≡ first es → Carries e
+pub first_carries : (es : List Entry) (e : Entry) → AllByRecursion Carries es → Some e ≡ first es → Carries e
 first_carries [] e a h = absurd (let z : ◌≡◌ {A = ℕ} 0 1 = cc in let w : ⊥ = omega arith in w)
 first_carries (x ∷ xs) e a h = let same : x ≡ e = cc in subst Carries same a.0

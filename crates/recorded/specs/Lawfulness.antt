@@ -1,7 +1,7 @@
 -- The queue of a capture's records is a lawful feed.
 use Rattle.std.specs.Prelude.{◌≡◌, ℕ, zero, suc, ◌+◌, ◌≤◌, List, [], ◌∷◌, map, length, take, drop, refl}
 use Rattle.std.proofs.Common.{ap, arith, length-drop}
-use Rattle.std.specs.List.{AllByRecursion as All}
+use Rattle.std.specs.List.{AllByRecursion}
 use Rattle.std.proofs.lemmas.List.{length-take-le, map-append}
 use Rattle.std.proofs.ByRecursion.{All-append, All-take, All-drop}
 use Rattle.std.proofs.lemmas.Bool.{cond_both}
@@ -18,7 +18,7 @@ Carries e = Carried (frame_of e)
 
 -- every record of the queue is such a one
 abbrev pub Held : Queue → Type 0
-Held q = All Carries q.waiting × All Carries q.coming
+Held q = AllByRecursion Carries q.waiting × AllByRecursion Carries q.coming
 
 -- ---- the records of a capture are
 cut-length : {n : ℕ} (bs : List ℕ) → 1 ≤ n → n ≤ 1040 → 11 + n ≤ length bs → (1 ≤ length (take n (drop 11 bs))) × (length (take n (drop 11 bs)) ≤ 1040)
@@ -30,11 +30,11 @@ first_carries : (bs : List ℕ) → Sized 0 bs → Carries (entry_at bs)
 first_carries bs s =
     let l = cut-length bs s.some s.few s.whole in record { line = s.line; some = l.0; few = l.1 }
 
-pub leading_carries : (n : ℕ) (bs : List ℕ) → All Carries (leading n bs)
+pub leading_carries : (n : ℕ) (bs : List ℕ) → AllByRecursion Carries (leading n bs)
 unfolding leading
 leading_carries zero bs = tt
 leading_carries (suc n) bs =
-    cond_both (sound_at 0 bs) (entry_at bs ∷ leading n (behind bs)) [] (λ (es : List Entry). All Carries es)
+    cond_both (sound_at 0 bs) (entry_at bs ∷ leading n (behind bs)) [] (λ (es : List Entry). AllByRecursion Carries es)
     (λ h. (first_carries bs (sized 0 bs h), leading_carries n (behind bs))) (λ h. tt)
 
 -- ---- the steps
@@ -57,7 +57,7 @@ none_gone : (es : List Entry) → map frame_of es ≡ [] → drop 1 es ≡ es
 none_gone [] h = refl
 none_gone (e ∷ es) h = cc
 
-all-carried : (es : List Entry) → All Carries es → AllCarried (map frame_of es)
+all-carried : (es : List Entry) → AllByRecursion Carries es → AllCarried (map frame_of es)
 all-carried [] h = tt
 all-carried (e ∷ es) h = (h.0, all-carried es h.1)
 

@@ -7,13 +7,13 @@ use Rattle.feed.specs.Feeds.{Meaning}
 use Rattle.recorded.specs.declared.recorded.Recorded.{Recorded}
 use Rattle.recorded.specs.Queues.{Queue, playing}
 use Rattle.recorded.specs.Lawfulness.{Carries, Held, leading_carries, queue-lawful}
-use Rattle.std.specs.List.{AllByRecursion as All}
+use Rattle.std.specs.List.{AllByRecursion}
 
 -- the records that wait, and those still to come
 abbrev pub queue_of : Recorded → Queue
 queue_of s = record { waiting = take s.waiting (to_come s.next); coming = to_come s.later }
 
-come_carries : (c : Capture) → All Carries (to_come c)
+come_carries : (c : Capture) → AllByRecursion Carries (to_come c)
 come_carries c = leading_carries (length c.rest.now) c.rest.now
 
 pub queue-held : (s : Recorded) → Held (queue_of s)

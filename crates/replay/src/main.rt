@@ -24,6 +24,7 @@ use options::Options;
 use policy::{Absolute, Relative};
 use ports::{show_ports, show_stations};
 use records::show_records;
+use std::process::ExitCode;
 
 // The code that the combined stream is sent under.
 const COMBINED: IdCode = IdCode(1);
@@ -53,10 +54,11 @@ fn run(rt: &HostRuntime) -> anyhow::Result<()> {
     }
 }
 
-fn main(rt: HostRuntime) -> anyhow::Result<()> {
-    let outcome = run(&rt);
-    if let Err(trouble) = &outcome {
-        eprintln!(rt; "replay: {trouble}")?;
-    }
-    outcome
+fn main(rt: HostRuntime) -> ExitCode {
+    let Err(trouble) = run(&rt) else {
+        return ExitCode::SUCCESS;
+    };
+    // Where the message cannot be written either, the status alone tells.
+    let _ = eprintln!(rt; "replay: {trouble}");
+    ExitCode::FAILURE
 }

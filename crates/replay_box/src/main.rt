@@ -36,6 +36,7 @@ use recorded::Recorded;
 use records::show_records;
 use refusal::refuse;
 use report::Report;
+use std::process::ExitCode;
 
 // The code that the combined stream is sent under.
 const COMBINED: IdCode = IdCode(1);
@@ -97,10 +98,11 @@ fn run(rt: &HostRuntime) -> anyhow::Result<()> {
     }
 }
 
-fn main(rt: HostRuntime) -> anyhow::Result<()> {
-    let outcome = run(&rt);
-    if let Err(trouble) = &outcome {
-        eprintln!(rt; "replay: {trouble}")?;
-    }
-    outcome
+fn main(rt: HostRuntime) -> ExitCode {
+    let Err(trouble) = run(&rt) else {
+        return ExitCode::SUCCESS;
+    };
+    // Where the message cannot be written either, the status alone tells.
+    let _ = eprintln!(rt; "replay: {trouble}");
+    ExitCode::FAILURE
 }
