@@ -23,7 +23,7 @@ KIT = "/opt/rattle/rattle"
 CHOSEN = {
     "checkWord": "check_word_of", "configBody": "config_body_of", "lastSlotBy": "last_slot_at", "pastComplete": "past_complete_of", "pastRipe": "past_ripe_of",
     "noCell": "cell_none", "inWindow": "within_window", "after-call": "after_call_lem", "after-calls": "after_calls_lem", "calls-keep-the-law": "calls_keep_the_law_lem",
-    "in-second": "in_second_lem", "is-out": "is_out_lem", "record-bytes": "record_bytes_lem", "tick-said": "tick_said_lem", "absentNumber": "absent_number_of", "absentPhasor": "absent_phasor_of", "dataBody": "data_body_of", "verdictNumber": "verdict_number_of",
+    "in-second": "in_second_lem", "is-out": "is_out_lem", "record-bytes": "record_bytes_lem", "tick-said": "tick_said_lem", "port-from": "port_from_lem", "absentNumber": "absent_number_of", "absentPhasor": "absent_phasor_of", "dataBody": "data_body_of", "verdictNumber": "verdict_number_of",
 }
 
 

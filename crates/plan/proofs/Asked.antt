@@ -77,9 +77,9 @@ config_body (Ok (of_config2 b)) body p = cc
 config_body (Ok (of_other b)) body p = absurd (err_not_ok p)
 config_body (Err e) body p = absurd (err_not_ok p)
 
-port-from : (rate id : ℕ) (r : Result Says Fault) (q : PortOf) → port_from rate id r ≡ Ok q → (c : Says) × (r ≡ Ok c) × (q.stations ≡ c.stations)
-port-from rate id (Err e) q p = absurd (err_not_ok p)
-port-from rate id (Ok c) q p =
+port_from_lem : (rate id : ℕ) (r : Result Says Fault) (q : PortOf) → port_from rate id r ≡ Ok q → (c : Says) × (r ≡ Ok c) × (q.stations ≡ c.stations)
+port_from_lem rate id (Err e) q p = absurd (err_not_ok p)
+port_from_lem rate id (Ok c) q p =
     let made : PortOf = record { id = id; base = c.base; stations = c.stations } in
     let a = passed (eqb c.rate rate) (Ok made) fault.Rate q p in
     let e : made ≡ q = cc in
@@ -116,7 +116,7 @@ asked_exact rate bytes q p =
     let a = bodied_ok rate (be16 bytes 4) (config_body_of (classified bytes)) q p in
     let body = a.0 in
     let t = told_config (header_of bytes) bytes body refl (config_body (classified bytes) body a.1) in
-    let f = port-from rate (be16 bytes 4) (configured body 8) q a.2 in
+    let f = port_from_lem rate (be16 bytes 4) (configured body 8) q a.2 in
     let c = f.0 in
     let k = config_exact body 8 c f.1 in
     let d = length-drop 14 bytes in
