@@ -26,6 +26,9 @@ CHOSEN = {
     "in-second": "in_second_lem", "is-out": "is_out_lem", "record-bytes": "record_bytes_lem", "tick-said": "tick_said_lem", "port-from": "port_from_lem", "absentNumber": "absent_number_of", "absentPhasor": "absent_phasor_of", "dataBody": "data_body_of", "verdictNumber": "verdict_number_of",
 }
 
+# A word that is the name of a tactic too, by crate.
+TACTICS = {"capture": {"first_of": "first_record"}, "feed": {"first_of": "first_taken"}, "runs": {"first_of": "left_true"}}
+
 
 def texts(root, exts):
     for folder, dirs, files in os.walk(root):
@@ -131,6 +134,14 @@ def main(argv):
         if new != old:
             with open(p, "w", encoding="utf-8") as f:
                 f.write(new)
+    for crate, rows in TACTICS.items():
+        for p in texts(os.path.join("crates", crate), (".antt", ".rt")):
+            old = new = read(p)
+            for a, b in rows.items():
+                new = re.sub(rf"(?<![\w'-]){a}(?![\w'-])", b, new)
+            if new != old:
+                with open(p, "w", encoding="utf-8") as f:
+                    f.write(new)
     # Words that an import renames are the file's own.
     for p in texts("crates", (".antt", ".rt")):
         old = new = read(p)

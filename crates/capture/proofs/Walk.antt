@@ -4,7 +4,7 @@ use Rattle.std.proofs.lemmas.Bool.{cond-true, cond-false, or_left, eq-eqb, ne_eq
 use Rattle.std.proofs.lemmas.Bool.Decides.{nat_tests}
 use Rattle.fields.specs.Fields.{be8, be16, be64}
 use Rattle.common.specs.declared.fault.Fault.TheVariants.{Unsound}
-use Rattle.capture.specs.Records.{Entry, entry_at, size_at, behind, sound_at, first_of, leading, sound_behind, headless, entries_of, records_of}
+use Rattle.capture.specs.Records.{Entry, entry_at, size_at, behind, sound_at, first_record, leading, sound_behind, headless, entries_of, records_of}
 
 -- what a sound record says of the bytes that it begins
 pub record Sized (low : ℕ) (bs : List ℕ) : Type 0 where
@@ -111,18 +111,18 @@ none-cond : {A : Type 0} (b : Bool) (y : A) → None ≡ cond b (Some y) None �
 none-cond true y h = absurd (let z : ◌≡◌ {A = ℕ} 0 1 = cc in let w : ⊥ = omega arith in w)
 none-cond false y h = refl
 
-pub first_some : (low : ℕ) (bs : List ℕ) (e : Entry) (rest : List ℕ) → Some (e, rest) ≡ first_of low bs → (sound_at low bs ≡ true) × (e ≡ entry_at bs) × (rest ≡ behind bs)
+pub first_some : (low : ℕ) (bs : List ℕ) (e : Entry) (rest : List ℕ) → Some (e, rest) ≡ first_record low bs → (sound_at low bs ≡ true) × (e ≡ entry_at bs) × (rest ≡ behind bs)
 first_some low bs e rest h =
     let p = some-cond (sound_at low bs) (e, rest) (entry_at bs, behind bs) h in
     (p.0, ap (λ (q : Entry × List ℕ). q.0) p.1, ap (λ (q : Entry × List ℕ). q.1) p.1)
 
-pub first-none : (low : ℕ) (bs : List ℕ) → None ≡ first_of low bs → sound_at low bs ≡ false
+pub first-none : (low : ℕ) (bs : List ℕ) → None ≡ first_record low bs → sound_at low bs ≡ false
 first-none low bs h = none-cond (sound_at low bs) (entry_at bs, behind bs) h
 
-pub come-more : (bs : List ℕ) (e : Entry) (rest : List ℕ) → Some (e, rest) ≡ first_of 0 bs → leading (length bs) bs ≡ e ∷ leading (length rest) rest
+pub come-more : (bs : List ℕ) (e : Entry) (rest : List ℕ) → Some (e, rest) ≡ first_record 0 bs → leading (length bs) bs ≡ e ∷ leading (length rest) rest
 come-more bs e rest h = let p = first_some 0 bs e rest h in let m = leading-more (length bs) bs (omega arith) p.0 in cc
 
-pub come-none : (bs : List ℕ) → None ≡ first_of 0 bs → leading (length bs) bs ≡ []
+pub come-none : (bs : List ℕ) → None ≡ first_record 0 bs → leading (length bs) bs ≡ []
 come-none bs h = leading-none (length bs) bs (first-none 0 bs h)
 
 -- the turn and the end of a way over all records, from the test that bytes are left
@@ -130,11 +130,11 @@ some_left : (bs : List ℕ) → false ≡ eqb (length bs) 0 → 0 < length bs
 some_left bs h = grind (arith, nat_tests)
 
 module _ (low : ℕ) (bs : List ℕ) (left : false ≡ eqb (length bs) 0) where
-  pub all_more : (e : Entry) (rest : List ℕ) → Some (e, rest) ≡ first_of low bs → sound_behind (length bs) low bs ≡ sound_behind (length rest) e.reading rest
+  pub all_more : (e : Entry) (rest : List ℕ) → Some (e, rest) ≡ first_record low bs → sound_behind (length bs) low bs ≡ sound_behind (length rest) e.reading rest
   all_more e rest h =
       let p = first_some low bs e rest h in let m = sound_more (length bs) low bs (omega arith) (some_left bs left) p.0 in cc
 
-  pub all-cut : None ≡ first_of low bs → sound_behind (length bs) low bs ≡ false
+  pub all-cut : None ≡ first_record low bs → sound_behind (length bs) low bs ≡ false
   all-cut h = sound-cut (length bs) low bs (omega arith) (some_left bs left) (first-none low bs h)
 
 pub all_end : (low : ℕ) (bs : List ℕ) → true ≡ eqb (length bs) 0 → sound_behind (length bs) low bs ≡ true
@@ -151,6 +151,6 @@ unfolding records_of
 refused bs records h s =
     sym (cond-false (sound_behind (length records) 0 records) (Ok (leading (length records) records)) (Err Unsound) s) ∙ ap entries_of h
 
-pub all-shorter : (low : ℕ) (bs : List ℕ) (e : Entry) (rest : List ℕ) → Some (e, rest) ≡ first_of low bs → length rest < length bs
+pub all-shorter : (low : ℕ) (bs : List ℕ) (e : Entry) (rest : List ℕ) → Some (e, rest) ≡ first_record low bs → length rest < length bs
 all-shorter low bs e rest h =
     let p = first_some low bs e rest h in let l = shorter low bs p.0 in let m = ap length p.2 in omega (arith, l, m)

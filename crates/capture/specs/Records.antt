@@ -43,8 +43,8 @@ abbrev pub parts_of : Option (Bor (List ℕ) × Bor (List ℕ)) → Option (List
 parts_of None = None
 parts_of (Some p) = Some (p.0.now, p.1.now)
 
-abbrev pub first_of : ℕ → List ℕ → Option (Entry × List ℕ)
-first_of low bs = cond (sound_at low bs) (Some (entry_at bs, behind bs)) None
+abbrev pub first_record : ℕ → List ℕ → Option (Entry × List ℕ)
+first_record low bs = cond (sound_at low bs) (Some (entry_at bs, behind bs)) None
 
 abbrev pub split_of : Option (Record × Bor (List ℕ)) → Option (Entry × List ℕ)
 split_of None = None

@@ -1,4 +1,4 @@
-ghost use Rattle.capture.specs.Records.{first_of, frame_of, parts_of, split_of};
+ghost use Rattle.capture.specs.Records.{first_record, frame_of, parts_of, split_of};
 ghost use Rattle.std.specs.Prelude.{◌≡◌};
 
 use crate::limits::within_limits;
@@ -26,7 +26,7 @@ fn split_frame(bytes: &[u8], len: u16) -> Option<(&[u8], &[u8])>
 
 // The record that begins the bytes, if it is sound behind one with the reading `low`, and the bytes behind it.
 pub(crate) fn split_first(bytes: &[u8], low: u64) -> Option<(Record<'_>, &[u8])>
-    ensures { split_of result ≡ first_of low bytes.now }
+    ensures { split_of result ≡ first_record low bytes.now }
 {
     let reading = u64_at(bytes, 0)?;
     let port = u8_at(bytes, 8)?;

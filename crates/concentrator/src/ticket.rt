@@ -1,12 +1,27 @@
 ghost use Rattle.std.specs.Prelude.{◌≡◌};
 
 // The right to write the slot of this number. It has to be spent by a write, if need be to an empty
-// buffer: the type has no `Drop`, so a program that lets one go is refused.
+// buffer: the type has no `Drop`, and only this crate can take one apart, so a program that lets one
+// go is refused.
 pub struct Ticket {
-    pub number: u64,
+    pub(crate) number: u64,
 }
 
 impl Ticket {
+    // The ticket of a number. A ticket is known by its number alone.
+    pub fn of(number: u64) -> Ticket
+        ensures { result.number ≡ number }
+    {
+        Ticket { number }
+    }
+
+    // The number of the ticket's slot.
+    pub fn number(&self) -> u64
+        ensures { result ≡ self.now.number }
+    {
+        self.number
+    }
+
     pub(crate) fn spend(self) -> u64
         ensures { result ≡ self.number }
     {

@@ -62,7 +62,7 @@ pub fn take(concentrator: &mut AnyBox, held: Option<Ticket>) -> (Answer, Option<
         Ok(ticket) => {
             // while one is held none is handed out, so this spends nothing
             spend(concentrator, held);
-            (Answer::Taken(ticket.number), Some(ticket))
+            (Answer::Taken(ticket.number()), Some(ticket))
         }
         Err(fault) => (Answer::Refused(fault), held),
     }

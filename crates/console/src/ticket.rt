@@ -9,13 +9,13 @@ pub type AnyBox<'a> = Concentrator<AnyFeed<'a>, AnyPolicy>;
 pub fn ticket_of(number: u64, held: Option<Ticket>) -> (Ticket, Option<Ticket>) {
     match held {
         Some(ticket) => {
-            if ticket.number == number {
+            if ticket.number() == number {
                 (ticket, None)
             } else {
-                (Ticket { number }, Some(ticket))
+                (Ticket::of(number), Some(ticket))
             }
         }
-        None => (Ticket { number }, None),
+        None => (Ticket::of(number), None),
     }
 }
 

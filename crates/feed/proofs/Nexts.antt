@@ -6,7 +6,7 @@ use Rattle.common.specs.declared.fault.Fault.TheVariants.{Buffer}
 use Rattle.fields.specs.Fields.{over}
 use Rattle.feed.specs.declared.feed.Taken.{Taken}
 use Rattle.feed.specs.Feeds.{Waiting, Next, Behaviour, after}
-use Rattle.feed.specs.Calls.{short, first_of, next_said, next_buffer, next_left}
+use Rattle.feed.specs.Calls.{short, first_taken, next_said, next_buffer, next_left}
 use Rattle.feed.specs.Maps.{Map, mapped}
 
 abbrev taken_of : Waiting → Taken
@@ -20,14 +20,14 @@ pub record Came (ws : List Waiting) (b : List ℕ) (t : Taken) : Type 0 where
   pub waited : ws ≡ first ∷ others
   pub told : t ≡ taken_of first
 
-by-room : (s : Bool) (ws : List Waiting) (t : Taken) → Ok t ≡ cond s (Err Buffer) (first_of ws) → (s ≡ false) × (Ok t ≡ first_of ws)
+by-room : (s : Bool) (ws : List Waiting) (t : Taken) → Ok t ≡ cond s (Err Buffer) (first_taken ws) → (s ≡ false) × (Ok t ≡ first_taken ws)
 by-room true ws t e = absurd (let z : ◌≡◌ {A = ℕ} 0 1 = cc in let w : ⊥ = omega arith in w)
 by-room false ws t e = (refl, e)
 
 pub came : (ws : List Waiting) (b : List ℕ) (t : Taken) → Ok t ≡ next_said ws b → Came ws b t
 came [] b t e =
     let h = by-room (short b) [] t e in
-    let f : ◌≡◌ {A = Result Taken Fault} (Ok t) (first_of []) = h.1 in
+    let f : ◌≡◌ {A = Result Taken Fault} (Ok t) (first_taken []) = h.1 in
     absurd (let z : ◌≡◌ {A = ℕ} 0 1 = cc in let w : ⊥ = omega arith in w)
 came (w ∷ ws) b t e =
     let h = by-room (short b) (w ∷ ws) t e in

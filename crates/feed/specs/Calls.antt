@@ -23,9 +23,9 @@ pick [] some none = none
 pick (w ∷ ws) some none = some
 
 -- what a next answers of the frames that wait: line and length of the first
-abbrev pub first_of : List Waiting → Result Taken Fault
-first_of [] = Err NothingWaits
-first_of (w ∷ ws) = Ok (record { port = record { 0 = w.port }; len = length w.bytes })
+abbrev pub first_taken : List Waiting → Result Taken Fault
+first_taken [] = Err NothingWaits
+first_taken (w ∷ ws) = Ok (record { port = record { 0 = w.port }; len = length w.bytes })
 
 -- the buffer with the first frame at its front
 abbrev pub first_over : List Waiting → List ℕ → List ℕ
@@ -34,7 +34,7 @@ first_over (w ∷ ws) buffer = over w.bytes buffer
 
 -- a next: a short buffer is refused first, and want of a frame next; a refusal changes nothing
 abbrev pub next_said : List Waiting → List ℕ → Result Taken Fault
-next_said ws buffer = cond (short buffer) (Err Buffer) (first_of ws)
+next_said ws buffer = cond (short buffer) (Err Buffer) (first_taken ws)
 
 abbrev pub next_buffer : List Waiting → List ℕ → List ℕ
 next_buffer ws buffer = cond (short buffer) buffer (first_over ws buffer)

@@ -61,7 +61,7 @@ impl<'a> Host<'a> {
 
     // Writes the slot of a ticket.
     fn write(&mut self, rt: &HostRuntime, ticket: Ticket) -> anyhow::Result<()> {
-        let slot = ticket.number;
+        let slot = ticket.number();
         let mut out = [0; LONGEST_FRAME];
         match self.concentrator.write(ticket, &mut out) {
             Ok(written) => self.report.written(rt, slot, front(&out, written.len)),

@@ -22,9 +22,9 @@ neither : (a b : Bool) → (a || b) ≡ false → (a ≡ false) × (b ≡ false)
 neither true b e = absurd (let z : ◌≡◌ {A = ℕ} 0 1 = cc in let n : ⊥ = omega arith in n)
 neither false b e = (refl, e)
 
-first_of : (a b : Bool) → (a && b) ≡ true → a ≡ true
-first_of true b e = refl
-first_of false b e = e
+left_true : (a b : Bool) → (a && b) ≡ true → a ≡ true
+left_true true b e = refl
+left_true false b e = e
 
 some : (n : ℕ) → (n ≡ 0 → ⊥) → 0 < n
 some n h = omega (arith, h)
@@ -34,7 +34,7 @@ opened-facts p closing bound reading o =
     let a = passed (ltb 4000000000000000 reading) _ _ o.unrefused in
     let b = passed (eqb (length p.ports) 0 || not (leb 1 p.rate && leb p.rate 120)) _ _ a.1 in
     let c = neither (eqb (length p.ports) 0) (not (leb 1 p.rate && leb p.rate 120)) b.0 in
-    let r : 1 ≤ p.rate = leb-true 1 p.rate (first_of (leb 1 p.rate) (leb p.rate 120) (not-false (leb 1 p.rate && leb p.rate 120) c.1)) in
+    let r : 1 ≤ p.rate = leb-true 1 p.rate (left_true (leb 1 p.rate) (leb p.rate 120) (not-false (leb 1 p.rate && leb p.rate 120) c.1)) in
     record {
       ports = some (length p.ports) (eqb-false (length p.ports) 0 c.0);
       rate = omega (arith, r);
