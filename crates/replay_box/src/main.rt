@@ -103,6 +103,6 @@ fn main(rt: HostRuntime) -> ExitCode {
         return ExitCode::SUCCESS;
     };
     // Where the message cannot be written either, the status alone tells.
-    let _ = eprintln!(rt; "replay: {trouble}");
+    let _ = eprintln!(rt; "replay_box: {trouble}");
     ExitCode::FAILURE
 }

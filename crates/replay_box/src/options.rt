@@ -48,7 +48,7 @@ impl Options {
                 Ok(None)
             }
             _ => Err(anyhow!(
-                "usage: replay [--wait MICROSECONDS] [--relative MICROSECONDS] [--hex] < CAPTURE"
+                "usage: replay_box [--wait MICROSECONDS] [--relative MICROSECONDS] [--hex] < CAPTURE"
             )),
         }
     }
