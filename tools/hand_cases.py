@@ -3,8 +3,8 @@
 
 usage: tools/hand_cases.py CALLS ANSWERS
 
-It shares no code with the library. Frames are put together here, with a check word computed bit by
-bit. Every answer is written down as a literal; only the bytes of frames that are published, written
+It shares no code with the library. Frames are put together here, with the check word of tools/frames.py, which is
+computed bit by bit. Every answer is written down as a literal; only the bytes of frames that are published, written
 or pulled are put together from the rules: header, bodies or absent blocks, check word.
 
 Number 13 is no call's answer (an unsound capture is a feed that stays empty), and 28, after 10^15
@@ -12,17 +12,10 @@ frames, is out of reach.
 """
 import sys
 
+from frames import check_word
+
 
 # ---- frames
-
-def check_word(data):
-    register = 0xFFFF
-    for byte in data:
-        register ^= byte << 8
-        for _ in range(8):
-            register = (register << 1 ^ (0x1021 if register & 0x8000 else 0)) & 0xFFFF
-    return register
-
 
 def big(value, width):
     return value.to_bytes(width, "big")
