@@ -1,4 +1,4 @@
-use Rattle.std.proofs.Common.{sym, ap, arith}
+use Rattle.std.proofs.Common.{ap, arith}
 use Rattle.plan.specs.Ports.{station_count, body_length, parts_length}
 use Rattle.plan.proofs.plan.Plan.begin.Goals as goal
 
@@ -6,9 +6,9 @@ pub invariant_of-result : goal.invariant_of-result
 invariant_of-result c =
     let e = c.empty.ensures in
     record {
-      counted = sym (ap station_count e);
-      measured = sym (ap body_length e);
-      filled = sym (ap parts_length e);
+      counted = omega (arith, ap station_count e);
+      measured = omega (arith, ap body_length e);
+      filled = omega (arith, ap parts_length e);
       few = omega arith;
       narrow = omega arith;
       bounded = omega arith;
