@@ -61,10 +61,27 @@ PAIR_CONFIG = config(
     station("Station C2", 7742, 1, ["VC2", "IC2"], [], ["SWITCH"]))
 FAST_CONFIG = config(7750, 520000, 50, station("Station D", 7750, 0, ["VD1"], [], []))
 
+COMMAND = frame(0xAA42, 7800, 1149580800, 0, 40000, bytes.fromhex("0002"))
+NO_SYNC = b"\xAB" + COMMAND[1:]
+
+# What each sample holds besides the data of its senders: the configurations, one worked data frame, and frames of no use.
+BESIDES = [
+    (1149577200463900, 0, WORKED_CONFIG),
+    (1149577200501200, 1, SMALL_CONFIG),
+    (1149577200511000, 4, PAIR_CONFIG),
+    (1149577200520800, 3, FAST_CONFIG),
+    (1149580800038000, 0, WORKED_DATA),
+    (1149580800041000, 2, COMMAND),
+    (1149580800060000, 2, COMMAND[:12]),
+    (1149580800061000, 2, NO_SYNC),
+    (1149580800070000, 0, WORKED_DATA[:-1]),
+    (1149580800071000, 15, WORKED_DATA + b"\x00"),
+]
+
 
 def capture(records):
-    """The bytes of a capture: of each record its reading, its line and its frame."""
+    """The bytes of a capture, its records in the order of their readings: of each its reading, its line and its frame."""
     out = b"PHC" + struct.pack(">H", 1)
-    for reading, port, data in records:
+    for reading, port, data in sorted(records, key=lambda record: record[0]):
         out += struct.pack(">QBH", reading, port, len(data)) + data
     return out

@@ -8,7 +8,7 @@ It shares no code with the library: frames are put together by tools/frames.py.
 import struct
 import sys
 
-from frames import FAST_CONFIG, PAIR_CONFIG, SMALL_CONFIG, WORKED_CONFIG, WORKED_DATA, capture, frame
+from frames import BESIDES, capture, frame
 
 # Data of the three senders that agree on a rate, at 30 frames a second from 08:00:00 on.
 SECOND = 1149580800
@@ -55,22 +55,4 @@ def stream():
         yield came(slot, 4, delay, pair_data(slot, 0x45 if slot == 9 else 0))
 
 
-COMMAND = frame(0xAA42, 7800, SECOND, 0, 40000, bytes.fromhex("0002"))
-NO_SYNC = b"\xAB" + COMMAND[1:]
-
-RECORDS = [
-    (1149577200463900, 0, WORKED_CONFIG),
-    (1149577200501200, 1, SMALL_CONFIG),
-    (1149577200511000, 4, PAIR_CONFIG),
-    (1149577200520800, 3, FAST_CONFIG),
-    (1149580800038000, 0, WORKED_DATA),
-    (1149580800041000, 2, COMMAND),
-    (1149580800060000, 2, COMMAND[:12]),
-    (1149580800061000, 2, NO_SYNC),
-    (1149580800070000, 0, WORKED_DATA[:-1]),
-    (1149580800071000, 15, WORKED_DATA + b"\x00"),
-    *stream(),
-]
-RECORDS.sort(key=lambda record: record[0])
-
-sys.stdout.buffer.write(capture(RECORDS))
+sys.stdout.buffer.write(capture(BESIDES + list(stream())))
