@@ -1,10 +1,11 @@
 ghost use Rattle.common.specs.Faults.{number as number_of, station as station_of};
 ghost use Rattle.std.specs.Prelude.{◌≡◌};
 
+use std::error::Error;
 use std::fmt;
 
 // Why a call refused. Each case has a fixed number, which hosts may rely on.
-#[derive(Clone, Copy, PartialEq, Eq, Debug)]
+#[derive(Clone, Copy, PartialEq, Eq, Hash, Debug)]
 pub enum Fault {
     Short,
     Sync,
@@ -39,7 +40,7 @@ pub enum Fault {
 }
 
 impl Fault {
-    // The refusal's fixed number.
+    // The refusal's fixed number. A method and no `From`: the number names the case, and two cases share 9.
     pub fn number(self) -> u8
         ensures { result ≡ number_of self }
     {
@@ -130,3 +131,5 @@ impl fmt::Display for Fault {
         }
     }
 }
+
+impl Error for Fault {}

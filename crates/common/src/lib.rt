@@ -3,6 +3,8 @@
 
 mod fault;
 mod ids;
+#[cfg(test)]
+mod tests;
 
 pub use fault::Fault;
 pub use ids::{IdCode, Port};
