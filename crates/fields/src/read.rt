@@ -1,74 +1,45 @@
-ghost use Rattle.std.specs.Prelude.{◌≡◌, ◌+◌, ◌≤◌, length};
-ghost use Rattle.fields.specs.Fields.{be8, be16 as word, be24, be32 as long, be64, field, fits};
+ghost use Rattle.std.specs.Prelude.{◌≡◌, ◌+◌, ◌≤◌, length, cond, take, drop, Some, None};
+ghost use Rattle.fields.specs.Fields.{be8, be16, be24, be32, be64, field, fits};
 
-// Whether `n` bytes from `at` on lie within `s`.
-pub(crate) fn has(s: &[u8], at: usize, n: usize) -> bool
-    ensures { result ≡ fits s.now at n }
+// The `N` bytes from `at` on, or none where the bytes end before they do.
+fn bytes_at<const N: usize>(s: &[u8], at: usize) -> Option<[u8; N]>
+    ensures { result ≡ cond (fits s.now at N) (Some (take N (drop at s.now))) None }
 {
-    at <= s.len() && n <= s.len() - at
-}
-
-fn be16(s: &[u8], at: usize) -> u16
-    requires { at + 2 ≤ length s.now }
-    ensures { result ≡ word s.now at }
-{
-    u16::from(s[at]) * 256 + u16::from(s[at + 1])
-}
-
-fn be32(s: &[u8], at: usize) -> u32
-    requires { at + 4 ≤ length s.now }
-    ensures { result ≡ long s.now at }
-{
-    u32::from(be16(s, at)) * 65536 + u32::from(be16(s, at + 2))
+    s.get(at..)?.first_chunk::<N>().copied()
 }
 
 // The byte at `at`, or none where the bytes end before it.
 pub fn u8_at(s: &[u8], at: usize) -> Option<u8>
     ensures { result ≡ field s.now at 1 (be8 s.now at) }
 {
-    if has(s, at, 1) { Some(s[at]) } else { None }
+    s.get(at).copied()
 }
 
 // The number in the two bytes from `at` on.
 pub fn u16_at(s: &[u8], at: usize) -> Option<u16>
-    ensures { result ≡ field s.now at 2 (word s.now at) }
+    ensures { result ≡ field s.now at 2 (be16 s.now at) }
 {
-    if has(s, at, 2) {
-        Some(be16(s, at))
-    } else {
-        None
-    }
+    bytes_at(s, at).map(u16::from_be_bytes)
 }
 
 // The number in the three bytes from `at` on.
 pub fn u24_at(s: &[u8], at: usize) -> Option<u32>
     ensures { result ≡ field s.now at 3 (be24 s.now at) }
 {
-    if has(s, at, 3) {
-        Some(u32::from(s[at]) * 65536 + u32::from(be16(s, at + 1)))
-    } else {
-        None
-    }
+    let [high, middle, low] = bytes_at::<3>(s, at)?;
+    Some(u32::from_be_bytes([0, high, middle, low]))
 }
 
 // The number in the four bytes from `at` on.
 pub fn u32_at(s: &[u8], at: usize) -> Option<u32>
-    ensures { result ≡ field s.now at 4 (long s.now at) }
+    ensures { result ≡ field s.now at 4 (be32 s.now at) }
 {
-    if has(s, at, 4) {
-        Some(be32(s, at))
-    } else {
-        None
-    }
+    bytes_at(s, at).map(u32::from_be_bytes)
 }
 
 // The number in the eight bytes from `at` on.
 pub fn u64_at(s: &[u8], at: usize) -> Option<u64>
     ensures { result ≡ field s.now at 8 (be64 s.now at) }
 {
-    if has(s, at, 8) {
-        Some(u64::from(be32(s, at)) * 4_294_967_296 + u64::from(be32(s, at + 4)))
-    } else {
-        None
-    }
+    bytes_at(s, at).map(u64::from_be_bytes)
 }
