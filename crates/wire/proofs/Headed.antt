@@ -1,5 +1,5 @@
 -- What is known of the header that was read.
-use Rattle.std.proofs.Common.{◌≡◌, ℕ, Bool, true, false, cond, ltb, List, length, Ok, Err, Result, sym, ap, arith}
+use Rattle.std.proofs.Common.{◌≡◌, ℕ, Bool, true, false, cond, ltb, List, length, Ok, Err, Result, sym, ap}
 use Rattle.common.specs.declared.fault.Fault.{Fault}
 use Rattle.common.specs.declared.fault.Fault.TheVariants.{Short}
 use Rattle.fields.specs.Fields.{be8, be16}
@@ -17,10 +17,10 @@ header_by (Err e) k = k
 headed-says : (s : Result (FrameType × Version) Fault) (bs : List ℕ) (h : Header) → headed s bs ≡ Ok h → (h.id.0 ≡ be16 bs 4) × (h.time ≡ time_of bs)
 headed-says (Ok s) bs h e =
     let k = sym (ap (λ r. header_by r h) e) in (ap (λ (x : Header). x.id.0) k, ap (λ (x : Header). x.time) k)
-headed-says (Err x) bs h e = absurd (let z : ◌≡◌ {A = ℕ} 0 1 = cc in let n : ⊥ = omega arith in n)
+headed-says (Err x) bs h e = cc
 
 past-short : (b : Bool) (r : Result Header Fault) (h : Header) → cond b (Err Short) r ≡ Ok h → r ≡ Ok h
-past-short true r h e = absurd (let z : ◌≡◌ {A = ℕ} 0 1 = cc in let n : ⊥ = omega arith in n)
+past-short true r h e = cc
 past-short false r h e = e
 
 module _ (bs : List ℕ) (h : Header) (e : header_of bs ≡ Ok h) where

@@ -1,5 +1,6 @@
 -- What a frame is told apart as, after the four checks: long enough, SYNC, FRAMESIZE, check word.
 use Rattle.std.specs.Prelude.{ℕ, ◌+◌, ◌-◌, Bool, cond, List, ◌++◌, length, take, drop, Ok, Err, Result, ◌==◌, nat_lt}
+use Rattle.std.specs.Borrow.{Bor}
 use Rattle.common.specs.declared.fault.Fault.{Fault}
 use Rattle.common.specs.declared.fault.Fault.TheVariants as fault
 use Rattle.crc.specs.CheckWord.{check_word_of}
@@ -54,6 +55,25 @@ seen (frame.Other body) = of_other body.now
 abbrev pub answered : Result Frame Fault → Result Told Fault
 answered (Ok f) = Ok (seen f)
 answered (Err e) = Err e
+
+-- the body of a data frame
+abbrev pub data_body_of : Result Told Fault → Result (List ℕ) Fault
+data_body_of (Ok (of_data b)) = Ok b
+data_body_of (Ok (of_config2 b)) = Err fault.FrameType
+data_body_of (Ok (of_other b)) = Err fault.FrameType
+data_body_of (Err e) = Err e
+
+-- the body of a configuration 2
+abbrev pub config_body_of : Result Told Fault → Result (List ℕ) Fault
+config_body_of (Ok (of_data b)) = Err fault.FrameType
+config_body_of (Ok (of_config2 b)) = Ok b
+config_body_of (Ok (of_other b)) = Err fault.FrameType
+config_body_of (Err e) = Err e
+
+-- what the code answers for either, with the body as it stands
+abbrev pub body_seen : Result (Bor (List ℕ)) Fault → Result (List ℕ) Fault
+body_seen (Ok body) = Ok body.now
+body_seen (Err e) = Err e
 
 -- bytes with their check word behind them
 unfoldable pub sealed : List ℕ → List ℕ

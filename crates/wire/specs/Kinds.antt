@@ -1,5 +1,5 @@
 -- The SYNC word: AAh, then the type in bits 6 to 4 and the version in bits 3 to 0, with bit 7 zero.
-use Rattle.std.specs.Prelude.{ℕ, ◌+◌, ◌*◌, ◌/◌, ◌%◌, cond, List, [], ◌∷◌, Some, None, Ok, Err, Option, Result, ◌==◌}
+use Rattle.std.specs.Prelude.{◌≡◌, ℕ, ◌+◌, ◌*◌, ◌/◌, ◌%◌, cond, List, [], ◌∷◌, codes, Some, None, Ok, Err, Option, Result, ok_or, ◌==◌}
 use Rattle.common.specs.declared.fault.Fault.{Fault}
 use Rattle.common.specs.declared.fault.Fault.TheVariants.{Sync}
 use Rattle.wire.specs.declared.kind.FrameType.{FrameType}
@@ -29,6 +29,22 @@ type_of t =
 
 abbrev pub version_of : ℕ → Option Version
 version_of v = cond (v == 1) (Some version.Y2005) (cond (v == 2) (Some version.Y2011) None)
+
+-- a code is told as its type or version, and another number is no SYNC word
+abbrev pub TellsType : ℕ → Result FrameType Fault → Type 0
+TellsType code r = r ≡ ok_or (type_of code) Sync
+
+abbrev pub TellsVersion : ℕ → Result Version Fault → Type 0
+TellsVersion code r = r ≡ ok_or (version_of code) Sync
+
+-- the standard's name for each type
+abbrev pub name_of : FrameType → List ℕ
+name_of type.Data = codes "data"
+name_of type.Header = codes "header"
+name_of type.Config1 = codes "configuration 1"
+name_of type.Config2 = codes "configuration 2"
+name_of type.Command = codes "command"
+name_of type.Config3 = codes "configuration 3"
 
 abbrev pub both : Option FrameType → Option Version → Result (FrameType × Version) Fault
 both (Some t) (Some v) = Ok (t, v)

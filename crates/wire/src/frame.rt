@@ -1,14 +1,13 @@
-ghost use Rattle.wire.specs.Frames.{answered, checks, classified};
-ghost use Rattle.std.specs.Prelude.{◌≡◌, ◌≤◌, length};
+ghost use Rattle.wire.specs.Frames.{answered, body_seen, checks, classified, config_body_of, data_body_of, seen};
+ghost use Rattle.std.specs.Prelude.{◌≡◌, ◌≤◌, Ok, length};
 
 use crate::header::Header;
 use crate::kind::FrameType;
 use common::Fault;
 use crc::check_word;
-use fields::u16_at;
 
 // A sound frame, told apart by its type. The body is borrowed from the frame's own bytes.
-#[derive(Clone, Copy)]
+#[derive(Clone, Copy, PartialEq, Eq, Hash, Debug)]
 pub enum Frame<'a> {
     Data(&'a [u8]),
     Config2(&'a [u8]),
@@ -20,9 +19,8 @@ fn is_checked(bytes: &[u8]) -> bool
     requires { 16 ≤ length bytes.now }
     ensures { result ≡ checks bytes.now }
 {
-    let end = bytes.len() - 2;
-    match u16_at(bytes, end) {
-        Some(check) => check_word(&bytes[0..end]) == check,
+    match bytes.split_last_chunk() {
+        Some((rest, check)) => check_word(rest) == u16::from_be_bytes(*check),
         None => false,
     }
 }
@@ -33,7 +31,7 @@ impl<'a> Frame<'a> {
         ensures { answered result ≡ classified bytes.now }
     {
         let header = Header::read(bytes)?;
-        if header.size as usize != bytes.len() {
+        if usize::from(header.size) != bytes.len() {
             return Err(Fault::FrameSize);
         }
         if !is_checked(bytes) {
@@ -44,6 +42,26 @@ impl<'a> Frame<'a> {
             FrameType::Data => Ok(Frame::Data(body)),
             FrameType::Config2 => Ok(Frame::Config2(body)),
             _ => Ok(Frame::Other(body)),
+        }
+    }
+
+    // The body of a data frame; any other frame is of a type that is not due.
+    pub fn data(self) -> Result<&'a [u8], Fault>
+        ensures { body_seen result ≡ data_body_of (Ok (seen self.entry)) }
+    {
+        match self {
+            Frame::Data(body) => Ok(body),
+            Frame::Config2(_) | Frame::Other(_) => Err(Fault::FrameType),
+        }
+    }
+
+    // The body of a configuration 2; any other frame is of a type that is not due.
+    pub fn config2(self) -> Result<&'a [u8], Fault>
+        ensures { body_seen result ≡ config_body_of (Ok (seen self.entry)) }
+    {
+        match self {
+            Frame::Config2(body) => Ok(body),
+            Frame::Data(_) | Frame::Other(_) => Err(Fault::FrameType),
         }
     }
 }

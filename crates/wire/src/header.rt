@@ -8,7 +8,7 @@ use fields::{u8_at, u16_at, u24_at, u32_at};
 
 // When a frame was sampled: seconds since 1970 UTC, the time quality byte, and the 24-bit count of
 // the sender's time base.
-#[derive(Clone, Copy, PartialEq, Eq, Debug)]
+#[derive(Clone, Copy, PartialEq, Eq, Hash, Debug)]
 pub struct TimeTag {
     pub soc: u32,
     pub quality: u8,
@@ -16,7 +16,7 @@ pub struct TimeTag {
 }
 
 // The 14 bytes that begin every frame.
-#[derive(Clone, Copy, PartialEq, Eq, Debug)]
+#[derive(Clone, Copy, PartialEq, Eq, Hash, Debug)]
 pub struct Header {
     pub kind: FrameType,
     pub version: Version,

@@ -4,6 +4,8 @@
 mod frame;
 mod header;
 mod kind;
+#[cfg(test)]
+mod tests;
 mod write;
 
 pub use frame::Frame;

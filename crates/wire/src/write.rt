@@ -14,12 +14,9 @@ const OVERHEAD: usize = 16;
 pub fn seal(frame: &mut [u8])
     ensures { frame.new ≡ resealed frame.old }
 {
-    if frame.len() < 2 {
-        return;
+    if let Some((rest, check)) = frame.split_last_chunk_mut() {
+        *check = check_word(rest).to_be_bytes();
     }
-    let end = frame.len() - 2;
-    let check = check_word(&frame[0..end]);
-    frame[end..end + 2].copy_from_slice(&check.to_be_bytes());
 }
 
 // Writes a whole frame to the front of `out` and answers its length. A body too long for FRAMESIZE
@@ -35,22 +32,22 @@ pub fn write_frame(
     ensures after { out.new ≡ left_by result (frame_bytes (header_for kind id time (length body.now)) body.now) out.old }
     ensures told_again { ToldAgain }
 {
-    if body.len() > u16::MAX as usize - OVERHEAD {
+    let end = OVERHEAD + body.len();
+    let Ok(size) = u16::try_from(end) else {
         return Err(Fault::FrameSize);
-    }
-    let size = OVERHEAD + body.len();
-    if out.len() < size {
+    };
+    if out.len() < end {
         return Err(Fault::Buffer);
     }
     let header = Header {
         kind,
         version: Version::Y2011,
-        size: size as u16,
+        size,
         id,
         time,
     };
-    out[0..14].copy_from_slice(&header.to_bytes());
-    out[14..size - 2].copy_from_slice(body);
-    seal(&mut out[0..size]);
-    Ok(size)
+    out[..14].copy_from_slice(&header.to_bytes());
+    out[14..end - 2].copy_from_slice(body);
+    seal(&mut out[..end]);
+    Ok(end)
 }
