@@ -4,13 +4,18 @@ use Rattle.common.specs.declared.fault.Fault.{Fault}
 use Rattle.common.specs.declared.fault.Fault.TheVariants as fault
 use Rattle.fields.specs.Fields.{be16, be24}
 use Rattle.config.specs.declared.station.Station.{Station}
-use Rattle.config.specs.declared.stations.Stations.{Stations}
+use Rattle.fixed.specs.declared.list.FixedList.{FixedList}
+use Rattle.fixed.specs.FixedList.{items_of}
 use Rattle.config.specs.declared.config.Config.{Config}
 use Rattle.config.specs.Stations.{stations_in}
 
--- the stations that a table holds
+-- the type of the same name, at most 32 stations
+abbrev pub Stations : Type 0
+Stations = FixedList Station 32
+
+-- the stations that it holds
 abbrev pub listed : Stations → List Station
-listed s = take s.count s.table
+listed s = items_of s
 
 abbrev pub listed_by : Result Stations Fault → Result (List Station) Fault
 listed_by (Ok s) = Ok (listed s)

@@ -8,4 +8,4 @@ mod stations;
 
 pub use config::Config;
 pub use station::{Format, Station};
-pub use stations::Stations;
+pub use stations::{MOST_STATIONS, Stations, no_stations};

@@ -1,26 +1,15 @@
-ghost use Rattle.std.specs.Prelude.{◌≡◌, ◌≤◌, [], length};
+ghost use Rattle.std.specs.Prelude.{◌≡◌, ◌≤◌};
 ghost use Rattle.common.specs.declared.fault.Fault.TheVariants.{StationLength};
-ghost use Rattle.config.specs.Configs.{configured, listed, listed_by, past_limits, says_by};
+ghost use Rattle.config.specs.Configs.{configured, listed_by, past_limits, says_by};
 ghost use Rattle.config.specs.Stations.{few, part_length, station_at, stations_in};
 ghost use Rattle.fields.specs.Fields.{be16, field};
 ghost use Rattle.std.specs.Option.{ok_or};
 
 use crate::config::Config;
 use crate::station::{Format, Station};
-use crate::stations::Stations;
+use crate::stations::{MOST_STATIONS, Stations, no_stations};
 use common::{Fault, IdCode};
 use fields::{u16_at, u24_at};
-
-// The most stations that any configuration is read with.
-const MOST_STATIONS: u16 = 32;
-
-const NO_STATION: Station = Station {
-    id: IdCode(0),
-    format: Format(0),
-    phasors: 0,
-    analogs: 0,
-    digitals: 0,
-};
 
 // A field of the station with the number `station`.
 fn field_of(part: &[u8], at: usize, station: u16) -> Result<u16, Fault>
@@ -75,59 +64,29 @@ impl Station {
     }
 }
 
-impl Stations {
-    // No station.
-    pub fn none() -> Stations
-        ensures { listed result ≡ [] }
-    {
-        Stations {
-            table: [NO_STATION; 32],
-            count: 0,
-        }
+// The `count` stations that the parts describe, with nothing behind them.
+fn read_stations(parts: &[u8], count: u16) -> Result<Stations, Fault>
+    requires { count ≤ 32 }
+    ensures { listed_by result ≡ stations_in count 0 parts.now }
+{
+    let mut stations = no_stations();
+    let mut rest = parts;
+    for k in 0..count {
+        let station = Station::read(rest, k)?;
+        stations.push(station);
+        rest = &rest[station.part_len()..];
     }
-
-    // How many there are.
-    pub fn len(&self) -> usize
-        ensures { result ≡ length (listed self.now) }
-    {
-        self.count
+    if !rest.is_empty() {
+        return Err(Fault::StationLength { station: count });
     }
-
-    // The stations, in their order.
-    pub fn as_slice(&self) -> &[Station]
-        ensures { result.now ≡ listed self.now }
-    {
-        &self.table[0..self.count]
-    }
-
-    // The `count` stations that the parts describe, with nothing behind them.
-    fn read(parts: &[u8], count: u16) -> Result<Stations, Fault>
-        requires { count ≤ 32 }
-        ensures { listed_by result ≡ stations_in count 0 parts.now }
-    {
-        let mut table = [NO_STATION; 32];
-        let mut rest = parts;
-        for k in 0..count {
-            let station = Station::read(rest, k)?;
-            let size = station.part_len();
-            table[k as usize] = station;
-            rest = &rest[size..];
-        }
-        if !rest.is_empty() {
-            return Err(Fault::StationLength { station: count });
-        }
-        Ok(Stations {
-            table,
-            count: count as usize,
-        })
-    }
+    Ok(stations)
 }
 
 // Whether a time base or a number of stations is out of range.
 fn is_past_limits(time_base: u32, count: u16, most: u16) -> bool
     ensures { result ≡ past_limits time_base count most }
 {
-    time_base < 1_000 || count < 1 || count > most.min(MOST_STATIONS)
+    time_base < 1_000 || count < 1 || usize::from(count) > usize::from(most).min(MOST_STATIONS)
 }
 
 impl Config {
@@ -146,7 +105,7 @@ impl Config {
             return Err(Fault::StationLimit { station: 0 });
         }
         let end = body.len() - 2;
-        let stations = Stations::read(&body[6..end], count)?;
+        let stations = read_stations(&body[6..end], count)?;
         let rate = u16_at(body, end).ok_or(short)?;
         Ok(Config {
             time_base,

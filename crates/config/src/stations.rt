@@ -1,12 +1,28 @@
-ghost use Rattle.std.specs.Prelude.{◌≡◌, ◌≤◌, length};
+ghost use Rattle.std.specs.Prelude.{◌≡◌, []};
+ghost use Rattle.config.specs.Configs.{listed};
 
-use crate::station::Station;
+use crate::station::{Format, Station};
+use common::IdCode;
+use fixed::FixedList;
 
-// The stations of one configuration, at most 32, in their order.
-#[derive(Clone, Copy)]
-pub struct Stations {
-    pub(crate) table: [Station; 32],
-    pub(crate) count: usize,
-    ghost whole: { length table ≡ 32 },
-    ghost few: { count ≤ 32 },
+// The most stations that a configuration is read with, or written for.
+pub const MOST_STATIONS: usize = 32;
+
+// The stations of one configuration, in their order.
+pub type Stations = FixedList<Station, MOST_STATIONS>;
+
+// What stands behind the last station.
+const NO_STATION: Station = Station {
+    id: IdCode(0),
+    format: Format(0),
+    phasors: 0,
+    analogs: 0,
+    digitals: 0,
+};
+
+// No station.
+pub fn no_stations() -> Stations
+    ensures { listed result ≡ [] }
+{
+    Stations::new(NO_STATION)
 }

@@ -1,13 +1,13 @@
 -- Where a station with a code stands first, by port and then by place.
 use Rattle.std.specs.Prelude.{ℕ, ◌+◌, cond, List, [], ◌∷◌, Some, None, Option, ◌==◌}
+use Rattle.std.specs.List.{position_from}
 use Rattle.config.specs.declared.station.Station.{Station}
 use Rattle.plan.specs.declared.find.Place.{Place}
 use Rattle.plan.specs.Ports.{PortOf}
 
 -- the first of the stations with the code, the first of them having the place k
-unfoldable pub place_in : List Station → ℕ → ℕ → Option ℕ
-place_in [] id k = None
-place_in (s ∷ ss) id k = cond (s.id.0 == id) (Some k) (place_in ss id (k + 1))
+abbrev pub place_in : List Station → ℕ → ℕ → Option ℕ
+place_in ss id k = position_from (λ s. s.id.0 == id) k ss
 
 -- a port and a place in it
 abbrev pub at_port : ℕ → Option ℕ → Option (ℕ × ℕ) → Option (ℕ × ℕ)

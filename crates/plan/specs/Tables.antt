@@ -1,12 +1,17 @@
 -- The ports that a table of records holds.
-use Rattle.std.specs.Prelude.{List, map, take}
+use Rattle.std.specs.Prelude.{List, map}
+use Rattle.fixed.specs.declared.list.FixedList.{FixedList}
+use Rattle.fixed.specs.FixedList.{items_of}
 use Rattle.config.specs.Configs.{listed}
 use Rattle.plan.specs.declared.record.Record.{Record}
-use Rattle.plan.specs.declared.table.Table.{Table}
 use Rattle.plan.specs.Ports.{PortOf}
+
+-- the type of the same name, at most 16 records
+abbrev pub Table : Type 0
+Table = FixedList Record 16
 
 abbrev pub port_of : Record → PortOf
 port_of r = record { id = r.id.0; base = r.time_base; stations = listed r.stations }
 
 abbrev pub ports_of : Table → List PortOf
-ports_of t = map port_of (take t.count t.records)
+ports_of t = map port_of (items_of t)

@@ -3,6 +3,7 @@ use Rattle.std.specs.Prelude.{ℕ, List, Ok, Err, Result}
 use Rattle.std.specs.Borrow.{Bor}
 use Rattle.common.specs.declared.fault.Fault.{Fault}
 use Rattle.plan.specs.declared.record.Record.{Record}
+use Rattle.plan.specs.declared.request.Request.{Request}
 use Rattle.plan.specs.declared.plan.Plan.{Plan}
 use Rattle.plan.specs.Ports.{PortOf}
 use Rattle.plan.specs.Tables.{port_of, ports_of}
@@ -14,6 +15,10 @@ plan_of p = record { id = p.id.0; rate = p.rate; ports = ports_of p.table }
 abbrev pub port_by : Result Record Fault → Result PortOf Fault
 port_by (Ok r) = Ok (port_of r)
 port_by (Err e) = Err e
+
+abbrev pub requested_by : Result Request Fault → Result PortOf Fault
+requested_by (Ok p) = Ok (port_of p.port)
+requested_by (Err e) = Err e
 
 abbrev pub held_by : Result (Bor (List ℕ)) Fault → Result (List ℕ) Fault
 held_by (Ok s) = Ok s.now

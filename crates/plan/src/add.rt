@@ -1,58 +1,23 @@
-ghost use Rattle.std.specs.Prelude.{◌≡◌, ◌+◌, ◌*◌, ◌<◌, ◌≤◌, false, ◌||◌, [], length, Ok, nat_le, nat_lt, slice_set};
-ghost use Rattle.layout.specs.Blocks.{data_length};
-ghost use Rattle.plan.specs.Plans.{add_answer, add_buffer, add_plan, adds, asked, begun, bodied, config_body_of, full, numbered, own, placed};
-ghost use Rattle.plan.specs.Ports.{part_lengths};
+ghost use Rattle.std.specs.Prelude.{◌≡◌, false, length, Ok, IfOk};
+ghost use Rattle.plan.specs.Plans.{add_answer, add_buffer, add_plan, adds, asked, begun, bodied, config_body_of, full, numbered, own, parts_in, placed};
 ghost use Rattle.plan.specs.Tables.{port_of, ports_of};
-ghost use Rattle.plan.specs.Views.{held_by, passing, plan_of, port_by};
+ghost use Rattle.plan.specs.Views.{held_by, requested_by, passing, plan_of, port_by};
 ghost use Rattle.wire.specs.Frames.{classified};
 
-use crate::plan::Plan;
+use crate::plan::{BEHIND_PARTS, PARTS_AT, Plan};
 use crate::record::Record;
-use crate::table::Table;
+use crate::request::Request;
+use crate::table::no_ports;
 use common::{Fault, IdCode, Port};
-use config::{Config, Stations};
+use config::{Config, MOST_STATIONS};
 use layout::data_len;
 use wire::{Frame, Header};
 
 // The most stations that one line may bring.
 const MOST_STATIONS_A_LINE: u16 = 8;
 
-// The limits of a plan: ports, stations, and bytes of data body.
-const MOST_PORTS: usize = 16;
-
-const MOST_STATIONS: usize = 32;
-
+// The longest data body of a plan.
 const LONGEST_BODY: usize = 1024;
-
-// Where the station parts begin in a configuration frame.
-const PARTS_AT: usize = 20;
-
-impl Table {
-    fn empty() -> Table
-        ensures { ports_of result ≡ [] }
-    {
-        let none = Record {
-            id: IdCode(0),
-            time_base: 0,
-            stations: Stations::none(),
-        };
-        Table {
-            records: [none; 16],
-            count: 0,
-        }
-    }
-
-    // One record more; the others stay as they are.
-    fn fill(&mut self, port: Record)
-        requires { self.old.count < 16 }
-        ensures records { self.new.records ≡ slice_set self.old.records self.old.count port }
-        ensures count { self.new.count ≡ self.old.count + 1 }
-    {
-        let at = self.count;
-        self.records[at] = port;
-        self.count = at + 1;
-    }
-}
 
 // The body of a configuration-2 frame.
 fn config_body(bytes: &[u8]) -> Result<&[u8], Fault>
@@ -91,11 +56,14 @@ fn read_record(bytes: &[u8], rate: u16) -> Result<Record, Fault>
     read_body(body, header.id, rate)
 }
 
-// Whether a plan with so many ports takes no more, or would have too many stations or too long a body.
-fn is_past_limits(ports: usize, stations: usize, body: usize) -> bool
-    ensures { result ≡ (nat_le 16 ports || (nat_lt 32 stations || nat_lt 1024 body)) }
+// What a configuration frame asks for, at a rate.
+fn read_request(bytes: &[u8], rate: u16) -> Result<Request<'_>, Fault>
+    ensures port { requested_by result ≡ asked rate bytes.now }
+    ensures parts { IfOk result (λ request. request.parts.now ≡ parts_in bytes.now) }
 {
-    ports >= MOST_PORTS || stations > MOST_STATIONS || body > LONGEST_BODY
+    let port = read_record(bytes, rate)?;
+    let parts = &bytes[PARTS_AT..bytes.len() - BEHIND_PARTS];
+    Ok(Request { port, parts })
 }
 
 impl Plan {
@@ -106,7 +74,7 @@ impl Plan {
         Plan {
             id,
             rate,
-            table: Table::empty(),
+            table: no_ports(),
             stations: 0,
             body: 0,
             parts: 0,
@@ -130,41 +98,35 @@ impl Plan {
     fn is_full_for(&self, port: &Record) -> bool
         ensures { result ≡ full (ports_of self.now.table) (port_of port.now) }
     {
-        let stations = self.stations + port.stations.len();
-        let body = self.body + data_len(&port.stations);
-        is_past_limits(self.table.count, stations, body)
+        self.table.is_full()
+            || self.stations + port.stations.len() > MOST_STATIONS
+            || self.body + data_len(&port.stations) > LONGEST_BODY
     }
 
-    // Whether the limits of the plan, and then the buffer, leave room for one port more.
-    fn check_room(&self, port: &Record, parts: usize, room: usize) -> Result<(), Fault>
-        requires parts { parts ≡ part_lengths (port_of port.now).stations }
-        requires bound { parts ≤ 1070 * length (port_of port.now).stations + 10 * data_length (port_of port.now).stations }
-        ensures { passing result (port_of port.now) ≡ placed (ports_of self.now.table) room (Ok (port_of port.now)) }
+    // Whether the limits of the plan, and then the buffer, leave room for what is asked for.
+    fn check_room(&self, request: &Request, room: usize) -> Result<(), Fault>
+        ensures { passing result (port_of request.now.port) ≡ placed (ports_of self.now.table) room (Ok (port_of request.now.port)) }
     {
-        if self.is_full_for(port) {
+        if self.is_full_for(&request.port) {
             return Err(Fault::PlanFull);
         }
-        if room < PARTS_AT + self.parts + parts + 4 {
+        if room < self.published_len() + request.parts.len() {
             return Err(Fault::Buffer);
         }
         Ok(())
     }
 
-    // One port more, for which there is room.
-    fn place(&mut self, port: Record, parts: usize) -> Port
-        requires room { full (ports_of self.old.table) (port_of port) ≡ false }
-        requires parts { parts ≡ part_lengths (port_of port).stations }
-        requires bound { parts ≤ 1070 * length (port_of port).stations + 10 * data_length (port_of port).stations }
+    // Takes the port that is asked for, for which there is room, and answers its number.
+    fn place(&mut self, request: &Request) -> Port
+        requires { full (ports_of self.old.table) (port_of request.now.port) ≡ false }
         ensures answer { result.0 ≡ length (ports_of self.old.table) }
-        ensures plan { plan_of self.new ≡ add_plan (plan_of self.old) (Ok (port_of port)) }
+        ensures plan { plan_of self.new ≡ add_plan (plan_of self.old) (Ok (port_of request.now.port)) }
     {
-        let number = self.table.count;
-        let stations = port.stations.len();
-        let body = data_len(&port.stations);
-        self.table.fill(port);
-        self.stations += stations;
-        self.body += body;
-        self.parts += parts;
+        let number = self.table.len();
+        self.table.push(request.port);
+        self.stations += request.port.stations.len();
+        self.body += data_len(&request.port.stations);
+        self.parts += request.parts.len();
         Port(number as u8)
     }
 
@@ -176,11 +138,10 @@ impl Plan {
         ensures after { buffer.new ≡ add_buffer (plan_of self.old) bytes.now (adds (plan_of self.old) bytes.now (length buffer.old)) buffer.old }
     {
         self.check_own()?;
-        let port = read_record(bytes, self.rate)?;
-        let parts = &bytes[PARTS_AT..bytes.len() - 4];
-        self.check_room(&port, parts.len(), buffer.len())?;
+        let request = read_request(bytes, self.rate)?;
+        self.check_room(&request, buffer.len())?;
         let at = PARTS_AT + self.parts;
-        buffer[at..at + parts.len()].copy_from_slice(parts);
-        Ok(self.place(port, parts.len()))
+        buffer[at..at + request.parts.len()].copy_from_slice(request.parts);
+        Ok(self.place(&request))
     }
 }

@@ -19,12 +19,7 @@ pub struct Place {
 fn position(stations: &[Station], id: IdCode) -> Option<usize>
     ensures { result ≡ place_in stations.now id.0 0 }
 {
-    for (place, station) in stations.iter().enumerate() {
-        if station.id.0 == id.0 {
-            return Some(place);
-        }
-    }
-    None
+    stations.iter().position(|station| station.id == id)
 }
 
 impl Plan {
@@ -33,7 +28,7 @@ impl Plan {
         ensures value { map port_of result.now ≡ ports_of self.now.table }
         ensures few { length result.now ≤ 16 }
     {
-        &self.table.records[0..self.table.count]
+        self.table.as_slice()
     }
 
     // The first station with the code, by port and then by place, or none.

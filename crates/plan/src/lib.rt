@@ -6,6 +6,7 @@ mod find;
 mod plan;
 mod publish;
 mod record;
+mod request;
 mod table;
 mod tell;
 

@@ -5,6 +5,11 @@ ghost use Rattle.plan.specs.Tables.{ports_of};
 use crate::table::Table;
 use common::IdCode;
 
+// Where the station parts begin in a configuration frame, and how many bytes stand behind them.
+pub(crate) const PARTS_AT: usize = 20;
+
+pub(crate) const BEHIND_PARTS: usize = 4;
+
 // The combined code, the rate in frames per second, and the ports with three sums over them: of
 // stations, of bytes of data body, and of bytes of station parts.
 #[derive(Clone, Copy)]

@@ -1,11 +1,11 @@
 ghost use Rattle.std.specs.Prelude.{◌≡◌, ◌+◌, ◌≤◌, length};
 ghost use Rattle.fields.specs.Fields.{over};
 ghost use Rattle.plan.specs.Laws.{ReadsBack};
-ghost use Rattle.plan.specs.Publish.{published_frame, publishes};
+ghost use Rattle.plan.specs.Publish.{published_frame, published_length, publishes};
 ghost use Rattle.plan.specs.Views.{plan_of};
 ghost use Rattle.wire.specs.Frames.{left_by};
 
-use crate::plan::Plan;
+use crate::plan::{BEHIND_PARTS, PARTS_AT, Plan};
 use common::Fault;
 use wire::{FrameType, Header, TimeTag, Version, seal};
 
@@ -15,17 +15,22 @@ const LAST_READING: u64 = 4_000_000_000_000_000;
 // The time base of the combined stream: microseconds.
 const TIME_BASE: u32 = 1_000_000;
 
-// Bytes of a configuration frame besides its station parts.
-const OVERHEAD: usize = 24;
-
 impl Plan {
+    // The length of the combined configuration.
+    pub(crate) fn published_len(&self) -> usize
+        ensures length { result ≡ published_length (plan_of self.now) }
+        ensures parts { result ≡ 24 + self.now.parts }
+    {
+        PARTS_AT + self.parts + BEHIND_PARTS
+    }
+
     // Writes the frame around the station parts that the buffer holds.
     fn wrap(&self, reading: u64, buffer: &mut [u8])
         requires room { 24 + self.now.parts ≤ length buffer.old }
         requires reading { reading ≤ 4000000000000000 }
         ensures { buffer.new ≡ over (published_frame (plan_of self.now) reading buffer.old) buffer.old }
     {
-        let size = OVERHEAD + self.parts;
+        let size = self.published_len();
         let header = Header {
             kind: FrameType::Config2,
             version: Version::Y2011,
@@ -52,14 +57,14 @@ impl Plan {
         ensures after { buffer.new ≡ left_by result (published_frame (plan_of self.now) reading buffer.old) buffer.old }
         ensures reads_back { ReadsBack }
     {
-        let size = OVERHEAD + self.parts;
+        let size = self.published_len();
         if buffer.len() < size {
             return Err(Fault::Buffer);
         }
         if reading > LAST_READING {
             return Err(Fault::Reading);
         }
-        if self.table.count == 0 {
+        if self.table.is_empty() {
             return Err(Fault::EmptyPlan);
         }
         self.wrap(reading, buffer);

@@ -4,7 +4,7 @@ use Rattle.plan.proofs.plan.Plan.begin.Goals as goal
 
 pub invariant_of-result : goal.invariant_of-result
 invariant_of-result c =
-    let e = c.empty.ensures in
+    let e = c.no_ports.ensures in
     record {
       counted = omega (arith, ap station_count e);
       measured = omega (arith, ap body_length e);
@@ -15,4 +15,4 @@ invariant_of-result c =
     }
 
 pub returns : goal.returns
-returns c = ap (λ ps. record { id = c.args.id.0; rate = c.args.rate; ports = ps }) c.empty.ensures
+returns c = ap (λ ps. record { id = c.args.id.0; rate = c.args.rate; ports = ps }) c.no_ports.ensures

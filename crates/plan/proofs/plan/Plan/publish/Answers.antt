@@ -9,8 +9,8 @@ returns-then-buffer-size c = record { answer = search rules; after = refl; reads
 pub returns-then-reading-gt-LAST_READING : goal.returns-then-reading-gt-LAST_READING
 returns-then-reading-gt-LAST_READING c = record { answer = search rules; after = refl; reads_back = reads-back }
 
-pub returns-then-self-eq0 : goal.returns-then-self-eq0
-returns-then-self-eq0 c =
+pub returns-then-is_empty : goal.returns-then-is_empty
+returns-then-is_empty c =
     let n = length-ports c.args.self.now.table in record { answer = search rules; after = refl; reads_back = reads-back }
 
 pub returns : goal.returns

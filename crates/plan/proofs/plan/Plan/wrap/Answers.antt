@@ -18,7 +18,8 @@ returns c =
     let s = c.args.self.now in
     let o = c.args.buffer.now in
     let p = s.parts in
-    let n = 24 + p in
+    let n = c.published_len-size.result in
+    let long : n ≡ 24 + p = c.published_len-size.ensures.parts in
     let head : ℕ → List ℕ = λ size. header_bytes (record { kind = Config2; version = Y2011; size = size; id = s.id; time = tag_at c.args.reading }) in
     let base = bytes32 1000000 in
     let count = bytes16 s.stations in
