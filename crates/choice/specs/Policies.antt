@@ -1,24 +1,13 @@
--- Each policy passes on what the chosen one says.
-use Rattle.std.specs.Prelude.{ℕ, min, Option}
-use Rattle.policy.specs.contracts.absolute.AbsolutePolicy.TheImpl as absolute
-use Rattle.policy.specs.contracts.relative.RelativePolicy.TheImpl as relative
-use Rattle.choice.specs.declared.simple.Simple.{Simple}
-use Rattle.choice.specs.declared.simple.Simple.TheVariants as simple
-use Rattle.choice.specs.declared.any_policy.AnyPolicy.{AnyPolicy}
-use Rattle.choice.specs.declared.any_policy.AnyPolicy.TheVariants as any
+-- What is asked of two policies, asked of the one that was chosen.
+use Rattle.choice.specs.declared.chosen.Chosen.{Chosen}
+use Rattle.choice.specs.declared.chosen.Chosen.TheVariants.{One, Other}
 
-abbrev pub simple_bound : Simple → ℕ
-simple_bound (simple.Absolute p) = (absolute.ghosts).bound p
-simple_bound (simple.Relative p) = (relative.ghosts).bound p
+-- what the chosen one says
+abbrev pub by_choice : {A B X : Type 0} → (A → X) → (B → X) → Chosen A B → X
+by_choice one other (One p) = one p
+by_choice one other (Other p) = other p
 
-abbrev pub simple_closing : Simple → ℕ → Option ℕ → ℕ
-simple_closing (simple.Absolute p) = (absolute.ghosts).closing p
-simple_closing (simple.Relative p) = (relative.ghosts).closing p
-
-abbrev pub any_bound : AnyPolicy → ℕ
-any_bound (any.Simple p) = simple_bound p
-any_bound (any.Sooner p) = min (simple_bound p.one) (simple_bound p.other)
-
-abbrev pub any_closing : AnyPolicy → ℕ → Option ℕ → ℕ
-any_closing (any.Simple p) stamp a = simple_closing p stamp a
-any_closing (any.Sooner p) stamp a = min (simple_closing p.one stamp a) (simple_closing p.other stamp a)
+-- what holds of each holds of the chosen one
+pub by_each : {A B : Type 0} (P : Chosen A B → Type 0) → ((p : A) → P (One p)) → ((p : B) → P (Other p)) → (p : Chosen A B) → P p
+by_each P one other (One p) = one p
+by_each P one other (Other p) = other p

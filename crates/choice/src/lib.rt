@@ -2,9 +2,14 @@
 #![tactic(auto)]
 
 mod any_feed;
-mod any_policy;
-mod simple;
+mod chosen;
 
 pub use any_feed::AnyFeed;
-pub use any_policy::AnyPolicy;
-pub use simple::Simple;
+pub use chosen::Chosen;
+use policy::{Absolute, Relative, Sooner};
+
+// A policy that is no combination of others.
+pub type Simple = Chosen<Absolute, Relative>;
+
+// A simple policy, or the sooner of two.
+pub type AnyPolicy = Chosen<Simple, Sooner<Simple, Simple>>;

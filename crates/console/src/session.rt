@@ -24,7 +24,7 @@ pub struct Session<'a> {
 
 fn no_box<'a>() -> AnyBox<'a> {
     let plan = Plan::begin(IdCode(1), 1);
-    let policy = AnyPolicy::Simple(Simple::Absolute(Absolute::new(0)));
+    let policy = AnyPolicy::One(Simple::One(Absolute::new(0)));
     Concentrator::open(&plan, AnyFeed::silent(), policy, 0)
 }
 

@@ -52,11 +52,11 @@ impl Source {
 // A policy that is no combination, by its first word.
 fn simple(kind: &str, words: &mut Words) -> Result<Simple, Reason> {
     match kind {
-        "abs" => Ok(Simple::Absolute(Absolute::new(words.number()?))),
+        "abs" => Ok(Simple::One(Absolute::new(words.number()?))),
         "rel" => {
             let after_arrival = words.number()?;
             let wait = words.number()?;
-            Ok(Simple::Relative(Relative::new(after_arrival, wait)))
+            Ok(Simple::Other(Relative::new(after_arrival, wait)))
         }
         _ => Err(Reason::UnknownPolicy),
     }
@@ -65,11 +65,11 @@ fn simple(kind: &str, words: &mut Words) -> Result<Simple, Reason> {
 pub fn read_policy(words: &mut Words) -> Result<AnyPolicy, Reason> {
     let kind = words.next()?;
     if kind != "soon" {
-        return Ok(AnyPolicy::Simple(simple(kind, words)?));
+        return Ok(AnyPolicy::One(simple(kind, words)?));
     }
     let kind = words.next()?;
     let one = simple(kind, words)?;
     let kind = words.next()?;
     let other = simple(kind, words)?;
-    Ok(AnyPolicy::Sooner(Sooner::new(one, other)))
+    Ok(AnyPolicy::Other(Sooner::new(one, other)))
 }

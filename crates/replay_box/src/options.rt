@@ -86,8 +86,8 @@ impl Options {
     // When slots close.
     pub fn policy(&self) -> Simple {
         match self.relative {
-            None => Simple::Absolute(Absolute::new(self.wait)),
-            Some(after) => Simple::Relative(Relative::new(after, self.wait)),
+            None => Simple::One(Absolute::new(self.wait)),
+            Some(after) => Simple::Other(Relative::new(after, self.wait)),
         }
     }
 }
