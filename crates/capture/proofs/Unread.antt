@@ -112,11 +112,11 @@ unread (suc n) low bs all h =
 -- ---- behind the header
 pub ok_cond : (b : Bool) (xs es : List Entry) → cond b (Ok xs) (Err Unsound) ≡ Ok es → (b ≡ true) × (xs ≡ es)
 ok_cond true xs es h = (refl, cc)
-ok_cond false xs es h = absurd (let z : ◌≡◌ {A = ℕ} 0 1 = cc in let w : ⊥ = omega arith in w)
+ok_cond false xs es h = absurd (cc)
 
 pub ok_headed : (b : Bool) (xs : List ℕ) (es : List Entry) → entries_of (cond b (Some xs) None) ≡ Ok es → (b ≡ true) × (entries xs ≡ Ok es)
 ok_headed true xs es h = (refl, h)
-ok_headed false xs es h = absurd (let z : ◌≡◌ {A = ℕ} 0 1 = cc in let w : ⊥ = omega arith in w)
+ok_headed false xs es h = absurd (cc)
 
 pub read_was_written : ReadWasWritten
 unfolding records_of

@@ -2,6 +2,7 @@
 use Rattle.std.proofs.Common.{◌≡◌, ℕ, zero, suc, ◌<◌, ◌≤◌, Bool, true, false, cond, ◌&&◌, ◌||◌, eqb, List, [], ◌∷◌, length, drop, Some, None, Ok, Err, sym, refl, ap, ◌∙◌, arith, length-drop}
 use Rattle.std.proofs.lemmas.Bool.{cond-true, cond-false, or_left, eq-eqb, ne_eqb}
 use Rattle.std.proofs.lemmas.Bool.Decides.{nat_tests}
+use Rattle.std.proofs.lemmas.Option.{cond_some}
 use Rattle.fields.specs.Fields.{be8, be16, be64}
 use Rattle.common.specs.declared.fault.Fault.TheVariants.{Unsound}
 use Rattle.capture.specs.Records.{Entry, entry_at, size_at, behind, sound_at, first_record, leading, sound_behind, headless, entries_of, records_of}
@@ -66,7 +67,7 @@ leading_enough (suc n) (suc m) bs h k =
 
 pub leading-more : (n : ℕ) (bs : List ℕ) → length bs ≤ n → sound_at 0 bs ≡ true → leading n bs ≡ entry_at bs ∷ leading (length (behind bs)) (behind bs)
 unfolding leading
-leading-more zero bs h s = absurd (let l = shorter 0 bs s in let z : ⊥ = omega (arith, l) in z)
+leading-more zero bs h s = absurd (let l = shorter 0 bs s in omega (arith, l))
 leading-more (suc n) bs h s =
     let l = shorter 0 bs s in
     cond-true (sound_at 0 bs) (entry_at bs ∷ leading n (behind bs)) [] s
@@ -89,7 +90,7 @@ sound_enough (suc n) (suc m) low bs h k =
 -- one record more, or a cut
 sound-step : (n low : ℕ) (bs : List ℕ) → length bs ≤ n → 0 < length bs → sound_behind n low bs ≡ (sound_at low bs && sound_behind (length (behind bs)) (be64 bs 0) (behind bs))
 unfolding sound_behind
-sound-step zero low bs h some = absurd (let z : ⊥ = omega arith in z)
+sound-step zero low bs h some = absurd (omega arith)
 sound-step (suc n) low bs h some =
     ap (λ t. t || (sound_at low bs && sound_behind n (be64 bs 0) (behind bs))) (ne_eqb (length bs) 0 (λ e. omega arith))
     ∙ same_and false (sound_at low bs) (sound_behind n (be64 bs 0) (behind bs)) (sound_behind (length (behind bs)) (be64 bs 0) (behind bs))
@@ -103,18 +104,14 @@ module _ (n low : ℕ) (bs : List ℕ) (h : length bs ≤ n) (some : 0 < length 
   sound-cut s = sound-step n low bs h some ∙ ap (λ t. t && sound_behind (length (behind bs)) (be64 bs 0) (behind bs)) s
 
 -- ---- what a look at the first record tells
-some-cond : {A : Type 0} (b : Bool) (x y : A) → Some x ≡ cond b (Some y) None → (b ≡ true) × (x ≡ y)
-some-cond true x y h = (refl, cc)
-some-cond false x y h = absurd (let z : ◌≡◌ {A = ℕ} 0 1 = cc in let w : ⊥ = omega arith in w)
-
 none-cond : {A : Type 0} (b : Bool) (y : A) → None ≡ cond b (Some y) None → b ≡ false
-none-cond true y h = absurd (let z : ◌≡◌ {A = ℕ} 0 1 = cc in let w : ⊥ = omega arith in w)
+none-cond true y h = absurd (cc)
 none-cond false y h = refl
 
 pub first_some : (low : ℕ) (bs : List ℕ) (e : Entry) (rest : List ℕ) → Some (e, rest) ≡ first_record low bs → (sound_at low bs ≡ true) × (e ≡ entry_at bs) × (rest ≡ behind bs)
 first_some low bs e rest h =
-    let p = some-cond (sound_at low bs) (e, rest) (entry_at bs, behind bs) h in
-    (p.0, ap (λ (q : Entry × List ℕ). q.0) p.1, ap (λ (q : Entry × List ℕ). q.1) p.1)
+    let p = cond_some (sound_at low bs) (entry_at bs, behind bs) (e, rest) (sym h) in
+    (p.0, ap (λ (q : Entry × List ℕ). q.0) (sym p.1), ap (λ (q : Entry × List ℕ). q.1) (sym p.1))
 
 pub first-none : (low : ℕ) (bs : List ℕ) → None ≡ first_record low bs → sound_at low bs ≡ false
 first-none low bs h = none-cond (sound_at low bs) (entry_at bs, behind bs) h

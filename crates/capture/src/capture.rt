@@ -30,15 +30,12 @@ impl<'a> Capture<'a> {
         ensures answer { told result ≡ records_of bytes.now }
         ensures laws { WrittenReadsBack × ReadWasWritten }
     {
-        let Some(records) = without_header(bytes) else {
-            return Err(Fault::Unsound);
-        };
+        let records = without_header(bytes).ok_or(Fault::Unsound)?;
         let mut rest = records;
         let mut low = 0;
+        // where a record ends stands in its own bytes, so an iterator would need this loop too
         while !rest.is_empty() {
-            let Some((record, behind)) = split_first(rest, low) else {
-                return Err(Fault::Unsound);
-            };
+            let (record, behind) = split_first(rest, low).ok_or(Fault::Unsound)?;
             low = record.reading;
             rest = behind;
         }
@@ -62,10 +59,11 @@ impl<'a> Capture<'a> {
     }
 }
 
+// The records one by one, as `next_record` gives them.
 impl<'a> Iterator for Capture<'a> {
     type Item = Record<'a>;
 
-    ghost next_gives = { λ s r t. Gives s r t };
+    ghost next_gives = { Gives };
 
     ghost remaining = { λ s. at_most (length (to_come s)) };
 

@@ -14,9 +14,7 @@ const LONGEST_FRAME: u16 = 1040;
 pub(crate) fn within_limits(low: u64, reading: u64, port: u8, len: u16) -> bool
     ensures { result ≡ limited low reading port len }
 {
-    low <= reading
-        && reading <= LAST_READING
+    (low..=LAST_READING).contains(&reading)
         && port <= LAST_PORT
-        && 1 <= len
-        && len <= LONGEST_FRAME
+        && (1..=LONGEST_FRAME).contains(&len)
 }
