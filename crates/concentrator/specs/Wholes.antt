@@ -2,7 +2,9 @@
 use Rattle.std.specs.Prelude.{ℕ, None, Option}
 use Rattle.common.specs.declared.fault.Fault.{Fault}
 use Rattle.plan.specs.Plans.{PlanOf}
-use Rattle.feed.specs.Feeds.{Behaviour, Meaning}
+use Rattle.feed.specs.Feeds.{Behaviour}
+use Rattle.feed.specs.declared.feed.Feed as feed
+use Rattle.policy.specs.declared.policy.Policy as policy
 use Rattle.engine.specs.Boxes.{Setting, Closing, Box}
 use Rattle.engine.specs.Calls.{open_setting, opened}
 use Rattle.engine.specs.Views.{setting_of, box_of}
@@ -16,14 +18,14 @@ pub record Whole : Type 0 where
   pub feed : Behaviour
 
 -- what a concentrator stands for, by what its feed means and when its policy closes slots
-abbrev pub whole : {F P : Type 0} → (F → Meaning) → (P → Closing) → Concentrator F P → Whole
-whole meaning closing c =
+abbrev pub whole : {F P : Type 0} {f : feed.Ghosts F} {p : policy.Ghosts P} → Concentrator F P f p → Whole
+whole {f = f} {p = p} c =
     record {
       shut = c.engine.terms.shut;
       setting = setting_of c.engine.terms;
-      closing = closing c.policy;
+      closing = p.closing c.policy;
       box = box_of c.engine;
-      feed = (meaning c.feed).waits;
+      feed = (f.meaning c.feed).waits;
     }
 
 -- with other slots and another feed

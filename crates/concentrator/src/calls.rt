@@ -37,8 +37,8 @@ impl<F: Feed, P: Policy> Concentrator<F, P> {
     // Takes a reading of the clock: ticks the feed with the latest one, and closes slots. A lent buffer
     // shorter than the longest frame is refused; else it may be used as scratch.
     pub fn tick(&mut self, reading: u64, scratch: &mut [u8]) -> Result<(), Fault>
-        ensures answer { result ≡ tick_said (whole F.meaning P.closing self.old) reading scratch.old }
-        ensures next { whole F.meaning P.closing self.new ≡ ticked (whole F.meaning P.closing self.old) reading scratch.old }
+        ensures answer { result ≡ tick_said (whole self.old) reading scratch.old }
+        ensures next { whole self.new ≡ ticked (whole self.old) reading scratch.old }
         ensures refused { (e : Refusal) → result ≡ Err e → scratch.new ≡ scratch.old }
     {
         self.engine.check()?;
@@ -51,17 +51,17 @@ impl<F: Feed, P: Policy> Concentrator<F, P> {
 
     // Takes one frame for a port: judges it, and keeps it if it is accepted.
     pub fn admit(&mut self, port: Port, frame: &[u8]) -> Result<(), Fault>
-        ensures answer { result ≡ admit_said (whole F.meaning P.closing self.old) port.0 frame.now }
-        ensures next { whole F.meaning P.closing self.new ≡ admitted (whole F.meaning P.closing self.old) port.0 frame.now }
+        ensures answer { result ≡ admit_said (whole self.old) port.0 frame.now }
+        ensures next { whole self.new ≡ admitted (whole self.old) port.0 frame.now }
     {
         self.engine.admit(&self.policy, port, frame)
     }
 
     // Takes the next frame of the feed, which is left at the buffer's front, and judges it.
     pub fn pull(&mut self, buffer: &mut [u8]) -> Result<Pulled, Fault>
-        ensures answer { result ≡ pull_said (whole F.meaning P.closing self.old) buffer.old }
-        ensures frame { buffer.new ≡ pull_buffer (whole F.meaning P.closing self.old) buffer.old }
-        ensures next { whole F.meaning P.closing self.new ≡ pulled_to (whole F.meaning P.closing self.old) buffer.old }
+        ensures answer { result ≡ pull_said (whole self.old) buffer.old }
+        ensures frame { buffer.new ≡ pull_buffer (whole self.old) buffer.old }
+        ensures next { whole self.new ≡ pulled_to (whole self.old) buffer.old }
     {
         self.engine.check()?;
         if buffer.len() < LONGEST_FRAME {
@@ -80,8 +80,8 @@ impl<F: Feed, P: Policy> Concentrator<F, P> {
 
     // Hands out the ticket of the oldest closed, unwritten slot.
     pub fn take(&mut self) -> Result<Ticket, Fault>
-        ensures answer { number_by result ≡ take_said (whole F.meaning P.closing self.old) }
-        ensures next { whole F.meaning P.closing self.new ≡ lent (whole F.meaning P.closing self.old) }
+        ensures answer { number_by result ≡ take_said (whole self.old) }
+        ensures next { whole self.new ≡ lent (whole self.old) }
     {
         let number = self.engine.take()?;
         Ok(Ticket { number })
@@ -89,9 +89,9 @@ impl<F: Feed, P: Policy> Concentrator<F, P> {
 
     // Writes the slot of the ticket, which is spent in every case, to the buffer's front.
     pub fn write(&mut self, ticket: Ticket, out: &mut [u8]) -> Result<Written, Fault>
-        ensures answer { length_by result ≡ write_said (whole F.meaning P.closing self.old) ticket.number (length out.old) }
-        ensures frame { out.new ≡ left_by (length_by result) (frame_of (whole F.meaning P.closing self.old) ticket.number) out.old }
-        ensures next { whole F.meaning P.closing self.new ≡ wrote (whole F.meaning P.closing self.old) ticket.number (length out.old) }
+        ensures answer { length_by result ≡ write_said (whole self.old) ticket.number (length out.old) }
+        ensures frame { out.new ≡ left_by (length_by result) (frame_of (whole self.old) ticket.number) out.old }
+        ensures next { whole self.new ≡ wrote (whole self.old) ticket.number (length out.old) }
     {
         let number = ticket.spend();
         let len = self.engine.write(number, out)?;

@@ -13,8 +13,8 @@ use policy::Policy;
 impl<F: Feed, P: Policy> Concentrator<F, P> {
     // Opens a concentrator; against a refusal it is shut, and every call answers that refusal.
     pub fn open(plan: &Plan, feed: F, policy: P, reading: u64) -> Concentrator<F, P>
-        ensures shut { (whole F.meaning P.closing result).shut ≡ open_fault (plan_of plan.now) (P.bound policy) reading }
-        ensures opens { (whole F.meaning P.closing result).shut ≡ None → whole F.meaning P.closing result ≡ begins (plan_of plan.now) reading (P.closing policy) (F.meaning feed).waits }
+        ensures shut { (whole result).shut ≡ open_fault (plan_of plan.now) (P.bound policy) reading }
+        ensures opens { (whole result).shut ≡ None → whole result ≡ begins (plan_of plan.now) reading (P.closing policy) (F.meaning feed).waits }
     {
         let engine = Engine::open(plan, &policy, reading);
         Concentrator {
@@ -26,7 +26,7 @@ impl<F: Feed, P: Policy> Concentrator<F, P> {
 
     // Why the concentrator is shut, if it is.
     pub fn check(&self) -> Result<(), Fault>
-        ensures { result ≡ unless_shut (whole F.meaning P.closing self.now).shut (Ok tt) }
+        ensures { result ≡ unless_shut (whole self.now).shut (Ok tt) }
     {
         self.engine.check()
     }
