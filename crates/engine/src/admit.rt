@@ -39,8 +39,7 @@ impl Engine {
         ensures terms { self.new.terms ≡ self.old.terms }
     {
         let i = usize::from(verdict_number(verdict));
-        let so_far = self.tally[i];
-        self.tally[i] = so_far + 1;
+        self.tally[i] += 1;
         self.judged += 1;
     }
 

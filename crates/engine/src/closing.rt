@@ -26,11 +26,13 @@ impl Engine {
         ensures near { result ≤ 4000000001 * frames_of self.now.terms.rate }
     {
         let front = self.front;
-        let mut end = self.terms.rate.last_slot_by(self.latest) + 1;
-        while end > front && !self.is_ripe(policy, end - 1) {
-            end -= 1;
+        let end = self.terms.rate.last_slot_by(self.latest) + 1;
+        for slot in (front..end).rev() {
+            if self.is_ripe(policy, slot) {
+                return slot + 1;
+            }
         }
-        end.max(front)
+        front
     }
 
     // The first slot from `from` on that is not complete.
@@ -41,11 +43,12 @@ impl Engine {
         ensures up { from ≤ result }
     {
         let end = self.terms.rate.last_slot_by(self.latest + EARLIEST) + 1;
-        let mut front = from;
-        while front < end && self.is_complete(front) {
-            front += 1;
+        for slot in from..end {
+            if !self.is_complete(slot) {
+                return slot;
+            }
         }
-        front
+        from.max(end)
     }
 
     // Moves the front past the highest ripe slot, and then past each complete one.

@@ -24,9 +24,7 @@ fn opening_rate(plan: &Plan, bound: u64, reading: u64) -> Result<Rate, Fault>
     if plan.ports().is_empty() {
         return Err(Fault::EmptyPlan);
     }
-    let Some(rate) = Rate::new(plan.rate()) else {
-        return Err(Fault::EmptyPlan);
-    };
+    let rate = Rate::new(plan.rate()).ok_or(Fault::EmptyPlan)?;
     if !rate.fits_window(bound) {
         return Err(Fault::WaitTooLong);
     }
@@ -39,13 +37,10 @@ impl Terms {
         ensures shut_value { result.shut ≡ Some fault }
         ensures first_value { result.first ≡ 0 }
     {
-        let Some(rate) = Rate::new(1) else {
-            unreachable()
-        };
         Terms {
             shut: Some(fault),
             plan: *plan,
-            rate,
+            rate: Rate::new(1).unwrap(),
             first: 0,
         }
     }

@@ -17,10 +17,7 @@ impl Engine {
     pub fn check(&self) -> Result<(), Fault>
         ensures { result ≡ unless_shut self.now.terms.shut (Ok tt) }
     {
-        match self.terms.shut {
-            Some(fault) => Err(fault),
-            None => Ok(()),
-        }
+        self.terms.shut.map_or(Ok(()), Err)
     }
 
     // Takes a reading of the clock, closes the slots whose time has come, and answers the latest

@@ -1,9 +1,10 @@
-use Rattle.std.proofs.Common.{◌≡◌, ℕ, ◌≤◌, Bool, true, false, cond, ◌&&◌, eqb, leb, length, Some, None, sym, refl, ap, ◌∙◌, arith, le-ltb}
+use Rattle.std.proofs.Common.{◌≡◌, ℕ, ◌≤◌, Bool, true, false, cond, ◌&&◌, eqb, leb, length, Some, None, sym, refl, ap, ◌∙◌, arith, rules, le-ltb}
 use Rattle.std.specs.Bool.{then_some}
-use Rattle.common.specs.declared.fault.Fault.TheVariants.{WaitTooLong}
+use Rattle.std.specs.Option.{option_map}
+use Rattle.common.specs.declared.fault.Fault.TheVariants.{EmptyPlan, WaitTooLong}
 use Rattle.plan.specs.Views.{plan_of}
 use Rattle.plan.specs.Plans.{PlanOf}
-use Rattle.slots.specs.Slots.{rate_from, window_fits}
+use Rattle.slots.specs.Slots.{frames_of, rate_from, window_fits}
 use Rattle.combined.proofs.Bodies.{length-ports}
 use Rattle.engine.specs.Calls.{open_fault}
 use Rattle.engine.proofs.open.opening_rate.Goals as goal
@@ -11,6 +12,10 @@ use Rattle.engine.proofs.open.opening_rate.Goals as goal
 when_some : (b : Bool) (x y : ℕ) → Some x ≡ then_some b y → (b ≡ true) × (x ≡ y)
 when_some true x y e = (refl, cc)
 when_some false x y e = absurd (let z : ◌≡◌ {A = ℕ} 0 1 = cc in let n : ⊥ = omega arith in n)
+
+when_none : (b : Bool) (y : ℕ) → None ≡ then_some b y → b ≡ false
+when_none false y e = refl
+when_none true y e = cc
 
 pub returns-then-is_empty : goal.returns-then-is_empty
 returns-then-is_empty c =
@@ -30,24 +35,31 @@ module _ (p : PlanOf) (bound reading frames : ℕ) (h : reading ≤ 400000000000
       let f : window_fits p.rate bound ≡ w = ap (λ x. window_fits x bound) (sym rate_is) ∙ sym e in
       rw (le-ltb 4000000000000000 reading h, n, t, f)
 
+pub returns-in_err-rate : goal.returns-in_err-rate
+returns-in_err-rate c =
+    let n = sym (length-ports c.ports.result.now) ∙ ap length c.ports.ensures.value in
+    let e = c.if-is_empty.ensures in
+    let some : eqb (length (plan_of c.args.plan.now).ports) 0 ≡ false = cc in
+    let none : None ≡ rate_from (plan_of c.args.plan.now).rate = sym (ap (option_map frames_of) c.in_err-rate.ensures.ok_part) ∙ (c.new.ensures ∙ ap rate_from c.rate.ensures) in
+    let off : (leb 1 (plan_of c.args.plan.now).rate && leb (plan_of c.args.plan.now).rate 120) ≡ false = when_none _ _ none in
+    let due : open_fault (plan_of c.args.plan.now) c.args.bound c.args.reading ≡ Some EmptyPlan = rw (le-ltb 4000000000000000 c.args.reading (omega arith), some, off) in
+    search (rules, due)
+
 pub returns-then-not-fits_window : goal.returns-then-not-fits_window
 returns-then-not-fits_window c =
     let n = sym (length-ports c.ports.result.now) ∙ ap length c.ports.ensures.value in
     let e = c.if-is_empty.ensures in
     let some : eqb (length (plan_of c.args.plan.now).ports) 0 ≡ false = cc in
-    let r = c.in-Some.ensures in
-    let q = c.rate.ensures in
-    opens (plan_of c.args.plan.now) c.args.bound c.args.reading c.in-Some.rate.frames (omega arith) some (cc) false (search c.if-not-fits_window.ensures.answer)
+    let own : Some c.in_ok-rate.rate.frames ≡ rate_from (plan_of c.args.plan.now).rate = sym (ap (option_map frames_of) c.in_ok-rate.ensures.ok_part) ∙ (c.new.ensures ∙ ap rate_from c.rate.ensures) in
+    opens (plan_of c.args.plan.now) c.args.bound c.args.reading c.in_ok-rate.rate.frames (omega arith) some own false (search c.if-not-fits_window.ensures.answer)
 
 pub returns : goal.returns
 returns c =
     let n = sym (length-ports c.ports.result.now) ∙ ap length c.ports.ensures.value in
     let e = c.if-is_empty.ensures in
     let some : eqb (length (plan_of c.args.plan.now).ports) 0 ≡ false = cc in
-    let r = c.in-Some.ensures in
-    let q = c.rate.ensures in
-    let own : Some c.in-Some.rate.frames ≡ rate_from (plan_of c.args.plan.now).rate = cc in (
-      opens (plan_of c.args.plan.now) c.args.bound c.args.reading c.in-Some.rate.frames (omega arith) some own true (search c.if-not-fits_window.ensures.answer),
-      rate_is (plan_of c.args.plan.now) c.args.bound c.args.reading c.in-Some.rate.frames (omega arith) some own,
+    let own : Some c.in_ok-rate.rate.frames ≡ rate_from (plan_of c.args.plan.now).rate = sym (ap (option_map frames_of) c.in_ok-rate.ensures.ok_part) ∙ (c.new.ensures ∙ ap rate_from c.rate.ensures) in (
+      opens (plan_of c.args.plan.now) c.args.bound c.args.reading c.in_ok-rate.rate.frames (omega arith) some own true (search c.if-not-fits_window.ensures.answer),
+      rate_is (plan_of c.args.plan.now) c.args.bound c.args.reading c.in_ok-rate.rate.frames (omega arith) some own,
       omega arith,
     )
