@@ -5,69 +5,69 @@ use Rattle.feed.specs.declared.feed.Taken.{Taken}
 use Rattle.feed.specs.Feeds.{Waiting, Tick, Next, Behaviour, after}
 use Rattle.feed.specs.Calls.{short, tick_left}
 use Rattle.feed.proofs.Nexts.{came, Nexted, Got, got}
-use Rattle.engine.specs.declared.terms.Terms.{Terms}
 use Rattle.engine.specs.Boxes.{Closing, Box}
 use Rattle.engine.specs.Closing.{settled}
 use Rattle.engine.specs.Calls as on
-use Rattle.engine.specs.Views.{setting_of}
+use Rattle.engine.specs.States.{State, with_box, left}
+use Rattle.engine.specs.States as state
+use Rattle.engine.proofs.Shuts.{left_open}
 use Rattle.concentrator.specs.declared.calls.Pulled.{Pulled}
-use Rattle.concentrator.specs.Wholes.{Whole, moved}
+use Rattle.concentrator.specs.Wholes.{Whole, joined, moved}
 use Rattle.concentrator.specs.Calls.{tick_said, ticked, pull_said, pull_buffer, took_first, pulled}
 
--- the whole of terms, a policy's closings, slots and a feed
-abbrev pub made : Terms → Closing → Box → Behaviour → Whole
-made t closing b f = record { shut = t.shut; setting = setting_of t; closing = closing; box = b; feed = f }
-
-module _ (t t' : Terms) (closing : Closing) (b b' : Box) (m m' : Behaviour) (opened : t.shut ≡ None) (same : t' ≡ t) where
+module _ (e e' : State) (closing : Closing) (m m' : Behaviour) (opened : e.shut ≡ None) where
   abbrev w : Whole
-  w = made t closing b m
+  w = joined e closing m
+
+  -- the engine with another box, and another feed
+  abbrev with_both : Box → Behaviour → Whole
+  with_both b f = joined (with_box e b) closing f
 
   -- ---- an accepted tick
-  module _ (reading l : ℕ) (scratch : List ℕ) (room : short scratch ≡ false) (said : Ok l ≡ on.unless_shut t.shut (on.tick_said b reading)) where
-    took : on.tick_said b reading ≡ Ok l
+  module _ (reading l : ℕ) (scratch : List ℕ) (room : short scratch ≡ false) (said : Ok l ≡ state.tick_said e reading) where
+    took : on.tick_said e.box reading ≡ Ok l
     took = sym (said ∙ rw opened)
 
     pub tick_said_lem : Ok tt ≡ tick_said w reading scratch
     tick_said_lem = rw (opened, room, took)
 
-    pub tick-next : b' ≡ on.if_open t.shut b (on.ticked closing (setting_of t) b reading) → m' ≡ tick_left m l scratch → made t' closing b' m' ≡ ticked w reading scratch
+    pub tick-next : e' ≡ state.ticked closing e reading → m' ≡ tick_left m l scratch → joined e' closing m' ≡ ticked w reading scratch
     tick-next p q =
-        let box : b' ≡ settled closing (setting_of t) (on.timed b l) = p ∙ rw (opened, took) in
+        let box : Box = settled closing e.setting (on.timed e.box l) in
+        let engine : e' ≡ with_box e box = p ∙ (ap (λ r. left e (on.tick_by closing e.setting e.box r)) took ∙ sym (left_open e box opened)) in
         let feed : m' ≡ after m (Tick l) = q ∙ rw room in
-        ap (λ (x : Terms). made x closing b' m') same
-        ∙ (ap (λ (x : Box). made t closing x m') box
-        ∙ (ap (λ (f : Behaviour). made t closing (settled closing (setting_of t) (on.timed b l)) f) feed ∙ rw (opened, room, took)))
+        ap (λ (x : State). joined x closing m') engine ∙ (ap (with_both box) feed ∙ rw (opened, room, took))
 
   -- ---- a frame that was pulled
-  module _ (buffer buffer' : List ℕ) (x : Taken) (v : Result Unit Fault) (few : on.exhausted b ≡ false) (n : Nexted m m' buffer buffer' x)
-      (judged : v ≡ on.unless_shut t.shut (on.admit_said (setting_of t) b x.port.0 (take x.len buffer')))
-      (next : b' ≡ on.if_open t.shut b (on.admitted closing (setting_of t) b x.port.0 (take x.len buffer'))) where
+  module _ (buffer buffer' : List ℕ) (x : Taken) (v : Result Unit Fault) (few : on.exhausted e.box ≡ false) (n : Nexted m m' buffer buffer' x)
+      (judged : v ≡ state.admit_said e x.port.0 (take x.len buffer')) (next : e' ≡ state.admitted closing e x.port.0 (take x.len buffer')) where
     pub record Pull : Type 0 where
       pub answer : Ok (record { port = x.port; len = x.len; verdict = v }) ≡ pull_said w buffer
       pub frame : buffer' ≡ pull_buffer w buffer
-      pub after : made t' closing b' m' ≡ pulled w buffer
+      pub after : joined e' closing m' ≡ pulled w buffer
 
     by_first : (f : Waiting) (fs : List Waiting) → short buffer ≡ false → m [] ≡ f ∷ fs → Got m m' buffer buffer' x f → Pull
     by_first f fs room waited g =
         let port = g.port in
         let front = g.front in
-        let verdict : v ≡ on.verdict_of (on.judge (setting_of t) b f.port f.bytes) =
-        judged ∙ (rw (opened, few) (ap (λ q. on.verdict_of (on.judge (setting_of t) b q (take x.len buffer'))) port ∙ ap (λ bs. on.verdict_of (on.judge (setting_of t) b f.port bs)) front)) in
-        let box : b' ≡ on.taken closing (setting_of t) b f.port f.bytes =
-        next ∙ (rw (opened, few) (ap (λ q. on.taken closing (setting_of t) b q (take x.len buffer')) port ∙ ap (λ bs. on.taken closing (setting_of t) b f.port bs) front)) in
+        let box : Box = on.taken closing e.setting e.box f.port f.bytes in
+        let verdict : v ≡ on.verdict_of (on.judge e.setting e.box f.port f.bytes) =
+        judged ∙ (rw (opened, few) (ap (λ q. on.verdict_of (on.judge e.setting e.box q (take x.len buffer'))) port ∙ ap (λ bs. on.verdict_of (on.judge e.setting e.box f.port bs)) front)) in
+        let engine : e' ≡ with_box e box =
+        next
+        ∙ (ap (λ a. left e (cond a e.box (on.taken closing e.setting e.box x.port.0 (take x.len buffer')))) few
+        ∙ (ap (λ q. left e (on.taken closing e.setting e.box q (take x.len buffer'))) port
+        ∙ (ap (λ bs. left e (on.taken closing e.setting e.box f.port bs)) front ∙ sym (left_open e box opened)))) in
         let len = g.len in
         let tell : ℕ → ℕ → Result Unit Fault → Result Pulled Fault = λ q l u. Ok (record { port = record { 0 = q }; len = l; verdict = u }) in
-        let took_it : pulled w buffer ≡ moved w (on.taken closing (setting_of t) b f.port f.bytes) (after m Next) =
-        ap (λ o. on.if_open o w (cond (short buffer) w (cond (on.exhausted b) w (took_first w (m []))))) opened ∙ rw (room, few, waited) in
+        let took_it : pulled w buffer ≡ moved w box (after m Next) =
+        ap (λ o. on.if_open o w (cond (short buffer) w (cond (on.exhausted e.box) w (took_first w (m []))))) opened ∙ rw (room, few, waited) in
         record {
           answer =
               rw (opened, room, few, waited)
               (ap (λ q. tell q x.len v) port ∙ (ap (λ l. tell f.port l v) len ∙ ap (tell f.port (length f.bytes)) verdict));
           frame = n.frame ∙ rw (opened, room, few);
-          after =
-              ap (λ (y : Terms). made y closing b' m') same
-              ∙ (ap (λ (y : Box). made t closing y m') box
-              ∙ (ap (λ (y : Behaviour). made t closing (on.taken closing (setting_of t) b f.port f.bytes) y) g.left ∙ sym took_it));
+          after = ap (λ (y : State). joined y closing m') engine ∙ (ap (with_both box) g.left ∙ sym took_it);
         }
 
     pub pull_steps : Pull

@@ -7,7 +7,8 @@ use Rattle.feed.specs.declared.feed.Feed as feed
 use Rattle.policy.specs.declared.policy.Policy as policy
 use Rattle.engine.specs.Boxes.{Setting, Closing, Box}
 use Rattle.engine.specs.Calls.{open_setting, opened}
-use Rattle.engine.specs.Views.{setting_of, box_of}
+use Rattle.engine.specs.States.{State}
+use Rattle.engine.specs.Views.{state_of}
 use Rattle.concentrator.specs.declared.concentrator.Concentrator.{Concentrator}
 
 pub record Whole : Type 0 where
@@ -17,16 +18,13 @@ pub record Whole : Type 0 where
   pub box : Box
   pub feed : Behaviour
 
+-- of an engine, a policy's closings and a feed
+abbrev pub joined : State → Closing → Behaviour → Whole
+joined e closing feed = record { shut = e.shut; setting = e.setting; closing = closing; box = e.box; feed = feed }
+
 -- what a concentrator stands for, by what its feed means and when its policy closes slots
 abbrev pub whole : {F P : Type 0} {f : feed.Ghosts F} {p : policy.Ghosts P} → Concentrator F P f p → Whole
-whole {f = f} {p = p} c =
-    record {
-      shut = c.engine.terms.shut;
-      setting = setting_of c.engine.terms;
-      closing = p.closing c.policy;
-      box = box_of c.engine;
-      feed = (f.meaning c.feed).waits;
-    }
+whole {f = f} {p = p} c = joined (state_of c.engine) (p.closing c.policy) (f.meaning c.feed).waits
 
 -- with other slots and another feed
 abbrev pub moved : Whole → Box → Behaviour → Whole

@@ -1,7 +1,6 @@
 ghost use Rattle.concentrator.specs.Calls.{admit_said, admitted, frame_of, length_by, lent, number_by, pull_buffer, pull_said, pulled as pulled_to, take_said, tick_said, ticked, write_said, wrote};
 ghost use Rattle.concentrator.specs.Wholes.{whole};
-ghost use Rattle.common.specs.declared.fault.Fault.{Fault as Refusal};
-ghost use Rattle.std.specs.Prelude.{◌≡◌, length, Err};
+ghost use Rattle.std.specs.Prelude.{◌≡◌, length, OnErr};
 ghost use Rattle.feed.specs.Calls.{tick_left as feed_left, tick_said as feed_said};
 ghost use Rattle.wire.specs.Frames.{left_by};
 
@@ -39,7 +38,7 @@ impl<F: Feed, P: Policy> Concentrator<F, P> {
     pub fn tick(&mut self, reading: u64, scratch: &mut [u8]) -> Result<(), Fault>
         ensures answer { result ≡ tick_said (whole self.old) reading scratch.old }
         ensures next { whole self.new ≡ ticked (whole self.old) reading scratch.old }
-        ensures refused { (e : Refusal) → result ≡ Err e → scratch.new ≡ scratch.old }
+        ensures refused { OnErr result (scratch.new ≡ scratch.old) }
     {
         self.engine.check()?;
         if scratch.len() < LONGEST_FRAME {

@@ -1,5 +1,5 @@
 -- What each call answers, and what it leaves.
-use Rattle.std.specs.Prelude.{ℕ, suc, ◌+◌, max, Bool, false, cond, not, ◌&&◌, ◌||◌, List, length, is_some, Some, None, Ok, Err, Option, Result, ◌==◌, nat_le, nat_lt}
+use Rattle.std.specs.Prelude.{◌≡◌, ℕ, suc, ◌+◌, ◌<◌, max, Bool, false, cond, not, ◌&&◌, ◌||◌, List, length, is_some, Some, None, Ok, Err, Option, Result, ◌==◌, nat_le, nat_lt}
 use Rattle.common.specs.declared.fault.Fault.{Fault}
 use Rattle.common.specs.declared.fault.Fault.TheVariants as fault
 use Rattle.common.specs.Faults.{number}
@@ -7,7 +7,7 @@ use Rattle.slots.specs.Slots.{first_slot, window_fits}
 use Rattle.plan.specs.Plans.{PlanOf}
 use Rattle.sample.specs.Samples.{SampleOf, sample_of}
 use Rattle.cells.specs.Cells.{or_else}
-use Rattle.combined.specs.Blocks.{port_at}
+use Rattle.combined.specs.Blocks.{port_at, width_of}
 use Rattle.combined.specs.Frames.{slot_frame, slot_length}
 use Rattle.engine.specs.Boxes.{Setting, Closing, Box, stamp, oldest}
 use Rattle.engine.specs.Closing.{settled, settled_by}
@@ -80,6 +80,12 @@ sound_at g q bytes = cond (nat_lt q (length g.ports)) (sample_of g.rate (port_at
 -- the sample of a frame that is accepted, or its refusal
 abbrev pub judge : Setting → Box → ℕ → List ℕ → Result SampleOf Fault
 judge g s q bytes = judged_in g s q (sound_at g q bytes)
+
+-- what is known of a sample that is to be accepted: its port is the plan's, its body as wide as that port's, and its slot takes it
+pub record Accepts (g : Setting) (s : Box) (q : ℕ) (x : SampleOf) : Type 0 where
+  pub port : q < length g.ports
+  pub body : length x.body ≡ width_of g.ports q
+  pub slot : slot_judged g s q x.slot ≡ Ok tt
 
 -- ---- taking a frame
 abbrev pub verdict_of : Result SampleOf Fault → Result Unit Fault

@@ -5,10 +5,15 @@ use Rattle.plan.specs.Tables.{ports_of}
 use Rattle.engine.specs.declared.terms.Terms.{Terms}
 use Rattle.engine.specs.declared.engine.Engine.{Engine}
 use Rattle.engine.specs.Boxes.{Setting, Box}
+use Rattle.engine.specs.Calls.{begun}
+use Rattle.engine.specs.States.{State}
 use Rattle.engine.specs.Rings.{held_in, arrived_in}
 
-abbrev pub setting_of : Terms → Setting
-setting_of t = record { id = t.plan.id.0; rate = frames_of t.rate; ports = ports_of t.plan.table; first = t.first }
+abbrev pub setting_by : Terms → Setting
+setting_by t = record { id = t.plan.id.0; rate = frames_of t.rate; ports = ports_of t.plan.table; first = t.first }
+
+abbrev pub setting_of : Engine → Setting
+setting_of e = setting_by e.terms
 
 abbrev pub oldest_of : Engine → ℕ
 oldest_of e = e.terms.first + e.written
@@ -25,3 +30,10 @@ box_of e =
       tally = λ v. slice_index e.tally v;
       judged = e.judged;
     }
+
+abbrev pub state_of : Engine → State
+state_of e = record { shut = e.terms.shut; setting = setting_of e; box = box_of e }
+
+-- that of an engine that holds nothing yet
+abbrev pub fresh : Terms → ℕ → State
+fresh t reading = record { shut = t.shut; setting = setting_by t; box = begun (setting_by t) reading }

@@ -1,6 +1,7 @@
 ghost use Rattle.std.specs.Prelude.{◌≡◌, ◌<◌, ◌≤◌, if◌then◌else◌, Ok, Err};
-ghost use Rattle.engine.specs.Calls.{admit_said, admitted, counted, exhausted, if_open, judge as judge_of, placed, unless_shut, verdict_number_of, verdict_of};
-ghost use Rattle.engine.specs.Views.{box_of, setting_of};
+ghost use Rattle.engine.specs.Calls.{counted, exhausted, judge as judge_of, placed, verdict_number_of, verdict_of};
+ghost use Rattle.engine.specs.States.{admit_said, admitted, with_box};
+ghost use Rattle.engine.specs.Views.{box_of, setting_of, state_of};
 ghost use Rattle.common.specs.declared.fault.Fault.TheVariants.{Exhausted};
 
 use crate::engine::Engine;
@@ -35,8 +36,7 @@ impl Engine {
     // Counts a frame by its verdict.
     fn count(&mut self, verdict: Result<(), Fault>)
         requires { self.old.judged < 1000000000000000 }
-        ensures next { box_of self.new ≡ counted (box_of self.old) (verdict_number_of verdict) }
-        ensures terms { self.new.terms ≡ self.old.terms }
+        ensures { state_of self.new ≡ with_box (state_of self.old) (counted (box_of self.old) (verdict_number_of verdict)) }
     {
         let i = usize::from(verdict_number(verdict));
         self.tally[i] += 1;
@@ -45,9 +45,8 @@ impl Engine {
 
     // Judges a frame, and keeps it if it is to be accepted.
     fn accept<P: Policy>(&mut self, policy: &P, port: Port, bytes: &[u8]) -> Result<(), Fault>
-        ensures answer { result ≡ verdict_of (judge_of (setting_of self.old.terms) (box_of self.old) port.0 bytes.now) }
-        ensures next { box_of self.new ≡ placed (P.closing policy.now) (setting_of self.old.terms) (box_of self.old) port.0 (judge_of (setting_of self.old.terms) (box_of self.old) port.0 bytes.now) }
-        ensures terms { self.new.terms ≡ self.old.terms }
+        ensures answer { result ≡ verdict_of (judge_of (setting_of self.old) (box_of self.old) port.0 bytes.now) }
+        ensures next { state_of self.new ≡ with_box (state_of self.old) (placed (P.closing policy.now) (setting_of self.old) (box_of self.old) port.0 (judge_of (setting_of self.old) (box_of self.old) port.0 bytes.now)) }
     {
         let sample = self.judge(port, bytes)?;
         self.place(policy, port, sample);
@@ -56,9 +55,8 @@ impl Engine {
 
     // Takes one frame for a port: judges it, keeps it if it is accepted, and counts it.
     pub fn admit<P: Policy>(&mut self, policy: &P, port: Port, bytes: &[u8]) -> Result<(), Fault>
-        ensures answer { result ≡ unless_shut self.old.terms.shut (admit_said (setting_of self.old.terms) (box_of self.old) port.0 bytes.now) }
-        ensures next { box_of self.new ≡ if_open self.old.terms.shut (box_of self.old) (admitted (P.closing policy.now) (setting_of self.old.terms) (box_of self.old) port.0 bytes.now) }
-        ensures terms { self.new.terms ≡ self.old.terms }
+        ensures answer { result ≡ admit_said (state_of self.old) port.0 bytes.now }
+        ensures next { state_of self.new ≡ admitted (P.closing policy.now) (state_of self.old) port.0 bytes.now }
     {
         self.check()?;
         self.check_count()?;

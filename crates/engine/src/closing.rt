@@ -1,8 +1,7 @@
 ghost use Rattle.std.specs.Prelude.{◌≡◌, ◌*◌, ◌≤◌};
-ghost use Rattle.engine.specs.Boxes.{Setting};
 ghost use Rattle.engine.specs.Closing.{past_complete_of, past_ripe_of, ripe, settled};
-ghost use Rattle.engine.specs.Views.{box_of, setting_of};
-ghost use Rattle.slots.specs.Slots.{frames_of};
+ghost use Rattle.engine.specs.States.{with_box};
+ghost use Rattle.engine.specs.Views.{box_of, setting_of, state_of};
 
 use crate::engine::Engine;
 use policy::Policy;
@@ -13,7 +12,7 @@ pub(crate) const EARLIEST: u64 = 100_000;
 impl Engine {
     // Whether the slot's closing reading has come.
     pub(crate) fn is_ripe<P: Policy>(&self, policy: &P, slot: u64) -> bool
-        ensures { result ≡ ripe (P.closing policy.now) (setting_of self.now.terms) (box_of self.now) slot }
+        ensures { result ≡ ripe (P.closing policy.now) (setting_of self.now) (box_of self.now) slot }
     {
         let stamp = self.terms.rate.stamp(slot);
         policy.closes_at(stamp, self.arrival_of(slot)) <= self.latest
@@ -22,8 +21,8 @@ impl Engine {
     // Where the front stands once all up to the highest ripe slot is closed. Slots whose bound has passed are all ripe, and at most 32
     // have a stamp that has come and a bound that has not, so the policy is asked at most 33 times.
     fn past_ripe<P: Policy>(&self, policy: &P) -> u64
-        ensures value { result ≡ past_ripe_of (P.closing policy.now) (setting_of self.now.terms) (box_of self.now) }
-        ensures near { result ≤ 4000000001 * frames_of self.now.terms.rate }
+        ensures value { result ≡ past_ripe_of (P.closing policy.now) (setting_of self.now) (box_of self.now) }
+        ensures near { result ≤ 4000000001 * (setting_of self.now).rate }
     {
         let front = self.front;
         let end = self.terms.rate.last_slot_by(self.latest) + 1;
@@ -37,9 +36,9 @@ impl Engine {
 
     // The first slot from `from` on that is not complete.
     pub(crate) fn past_complete(&self, from: u64) -> u64
-        requires { from ≤ 4000000001 * frames_of self.now.terms.rate }
-        ensures value { result ≡ past_complete_of (setting_of self.now.terms) (box_of self.now) from }
-        ensures near { result ≤ 4000000001 * frames_of self.now.terms.rate }
+        requires { from ≤ 4000000001 * (setting_of self.now).rate }
+        ensures value { result ≡ past_complete_of (setting_of self.now) (box_of self.now) from }
+        ensures near { result ≤ 4000000001 * (setting_of self.now).rate }
         ensures up { from ≤ result }
     {
         let end = self.terms.rate.last_slot_by(self.latest + EARLIEST) + 1;
@@ -53,8 +52,7 @@ impl Engine {
 
     // Moves the front past the highest ripe slot, and then past each complete one.
     pub(crate) fn settle<P: Policy>(&mut self, policy: &P)
-        ensures next { box_of self.new ≡ settled (P.closing policy.now) (setting_of self.old.terms) (box_of self.old) }
-        ensures terms { self.new.terms ≡ self.old.terms }
+        ensures { state_of self.new ≡ with_box (state_of self.old) (settled (P.closing policy.now) (setting_of self.old) (box_of self.old)) }
     {
         let ripe = self.past_ripe(policy);
         let front = self.past_complete(ripe);

@@ -1,7 +1,8 @@
 ghost use Rattle.std.specs.Prelude.{◌≡◌, ◌*◌, ◌≤◌, Some, None};
-ghost use Rattle.engine.specs.Calls.{begun, open_fault, open_setting, opened};
+ghost use Rattle.engine.specs.Calls.{open_fault};
 ghost use Rattle.engine.specs.Opens.{opens_by};
-ghost use Rattle.engine.specs.Views.{box_of, setting_of};
+ghost use Rattle.engine.specs.States.{begins};
+ghost use Rattle.engine.specs.Views.{fresh, state_of};
 ghost use Rattle.plan.specs.Views.{plan_of};
 ghost use Rattle.slots.specs.Slots.{frames_of};
 
@@ -51,8 +52,7 @@ impl Engine {
     fn begin(terms: Terms, reading: u64) -> Engine
         requires time { reading ≤ 4000000000000000 }
         requires near { terms.first ≤ 4000000001 * frames_of terms.rate }
-        ensures terms { result.terms ≡ terms }
-        ensures next { box_of result ≡ begun (setting_of terms) reading }
+        ensures { state_of result ≡ fresh terms reading }
     {
         let first = terms.first;
         Engine {
@@ -69,9 +69,8 @@ impl Engine {
 
     // An engine of the plan under the policy, from the reading on; against a refusal it is shut.
     pub fn open<P: Policy>(plan: &Plan, policy: &P, reading: u64) -> Engine
-        ensures shut { result.terms.shut ≡ open_fault (plan_of plan.now) (P.bound policy.now) reading }
-        ensures setting { result.terms.shut ≡ None → setting_of result.terms ≡ open_setting (plan_of plan.now) reading }
-        ensures opens { result.terms.shut ≡ None → box_of result ≡ opened (P.closing policy.now) (open_setting (plan_of plan.now) reading) reading }
+        ensures shut { (state_of result).shut ≡ open_fault (plan_of plan.now) (P.bound policy.now) reading }
+        ensures opens { (state_of result).shut ≡ None → state_of result ≡ begins (P.closing policy.now) (plan_of plan.now) reading }
     {
         match opening_rate(plan, policy.longest_wait(), reading) {
             Err(fault) => Engine::begin(Terms::refused(plan, fault), 0),

@@ -1,5 +1,5 @@
-ghost use Rattle.engine.specs.Calls.{if_open, lent, take_said, unless_shut};
-ghost use Rattle.engine.specs.Views.{box_of, setting_of};
+ghost use Rattle.engine.specs.States.{lent, take_said};
+ghost use Rattle.engine.specs.Views.{state_of};
 ghost use Rattle.std.specs.Prelude.{◌≡◌};
 
 use crate::engine::Engine;
@@ -8,9 +8,8 @@ use common::Fault;
 impl Engine {
     // Lends the oldest closed, unwritten slot, and answers its number.
     pub fn take(&mut self) -> Result<u64, Fault>
-        ensures answer { result ≡ unless_shut self.old.terms.shut (take_said (setting_of self.old.terms) (box_of self.old)) }
-        ensures next { box_of self.new ≡ if_open self.old.terms.shut (box_of self.old) (lent (setting_of self.old.terms) (box_of self.old)) }
-        ensures terms { self.new.terms ≡ self.old.terms }
+        ensures answer { result ≡ take_said (state_of self.old) }
+        ensures next { state_of self.new ≡ lent (state_of self.old) }
     {
         self.check()?;
         if self.ticket_out {

@@ -1,6 +1,6 @@
-ghost use Rattle.engine.specs.Calls.{if_open, tick_said, ticked, unless_shut};
-ghost use Rattle.engine.specs.Views.{box_of, setting_of};
-ghost use Rattle.std.specs.Prelude.{◌≡◌, Ok};
+ghost use Rattle.engine.specs.States.{check_said, tick_said, ticked};
+ghost use Rattle.engine.specs.Views.{state_of};
+ghost use Rattle.std.specs.Prelude.{◌≡◌};
 
 use crate::engine::Engine;
 use common::Fault;
@@ -15,7 +15,7 @@ const LONGEST_STEP: u64 = 60_000_000;
 impl Engine {
     // Why the engine is shut, if it is.
     pub fn check(&self) -> Result<(), Fault>
-        ensures { result ≡ unless_shut self.now.terms.shut (Ok tt) }
+        ensures { result ≡ check_said (state_of self.now) }
     {
         self.terms.shut.map_or(Ok(()), Err)
     }
@@ -23,9 +23,8 @@ impl Engine {
     // Takes a reading of the clock, closes the slots whose time has come, and answers the latest
     // reading. One that is lower than the latest counts as that.
     pub fn tick<P: Policy>(&mut self, policy: &P, reading: u64) -> Result<u64, Fault>
-        ensures answer { result ≡ unless_shut self.old.terms.shut (tick_said (box_of self.old) reading) }
-        ensures next { box_of self.new ≡ if_open self.old.terms.shut (box_of self.old) (ticked (P.closing policy.now) (setting_of self.old.terms) (box_of self.old) reading) }
-        ensures terms { self.new.terms ≡ self.old.terms }
+        ensures answer { result ≡ tick_said (state_of self.old) reading }
+        ensures next { state_of self.new ≡ ticked (P.closing policy.now) (state_of self.old) reading }
     {
         self.check()?;
         if reading > LAST_READING || reading > self.latest + LONGEST_STEP {

@@ -1,5 +1,5 @@
-use Rattle.std.proofs.Common.{◌≡◌, ℕ, length, Ok, ◌∙◌, arith, le-ltb}
-use Rattle.engine.specs.Views.{box_of}
+use Rattle.std.proofs.Common.{◌≡◌, length, Ok, ◌∙◌, le-ltb}
+use Rattle.engine.specs.Views.{state_of}
 use Rattle.engine.proofs.Shuts.{opens}
 use Rattle.concentrator.proofs.Steps.{tick_said_lem, tick-next}
 use Rattle.concentrator.proofs.concentrator.Concentrator.tick.Goals as goal
@@ -15,12 +15,12 @@ returns g c =
     let o = opens e.terms.shut c.in_ok-check.field-0 c.in_ok-check.ensures in
     let room = le-ltb (length scratch) 1040 c.if-scratch-lt-LONGEST_FRAME.false in
     let k = c.in_ok-latest.ensures in
-    let last = c.tick.new.self in
+    let last = state_of c.tick.new.self in
     let l = c.in_ok-latest.latest in
-    let said = tick_said_lem e.terms last.terms close (box_of e) (box_of last) m m' o k.terms c.args.reading l scratch room k.answer in
+    let said = tick_said_lem (state_of e) last close m m' o c.args.reading l scratch room k.answer in
     let fine : c.tick_once.result ≡ Ok tt = c.tick_once.ensures.answer ∙ rw room in
     record {
       answer = fine ∙ said;
-      next = tick-next e.terms last.terms close (box_of e) (box_of last) m m' o k.terms c.args.reading l scratch room k.answer k.next c.tick_once.ensures.left;
-      refused = λ f q. absurd (let z : ◌≡◌ {A = ℕ} 0 1 = cc in let n : ⊥ = omega arith in n);
+      next = tick-next (state_of e) last close m m' o c.args.reading l scratch room k.answer k.next c.tick_once.ensures.left;
+      refused = rw fine tt;
     }

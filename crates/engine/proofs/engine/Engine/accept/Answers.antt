@@ -7,5 +7,4 @@ use Rattle.engine.proofs.engine.Engine.accept.Goals as goal
 pub place-requires : goal.place-requires
 place-requires g c =
     let s = c.args.self.now in
-    let a = accepts (setting_of s.terms) (box_of s) c.args.port.0 c.args.bytes.now (sampled c.in_ok-sample.sample) (sym c.in_ok-sample.ensures) in
-    record { port = a.port; body = a.body; slot = a.slot }
+    accepts (setting_of s) (box_of s) c.args.port.0 c.args.bytes.now (sampled c.in_ok-sample.sample) (sym c.in_ok-sample.ensures)

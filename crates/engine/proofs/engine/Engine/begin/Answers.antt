@@ -10,4 +10,4 @@ returns c =
     let first = c.args.terms.first in
     let h = bare_held ps c.empty.result b (first + 0) in
     let a = bare_arrived ps c.empty.result b (first + 0) in
-    record { terms = refl; next = cc (h, a, no_tally) }
+    cc (h, a, no_tally)

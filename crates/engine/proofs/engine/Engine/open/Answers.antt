@@ -1,11 +1,10 @@
-use Rattle.std.proofs.Common.{◌≡◌, ℕ, sym, ap, ◌∙◌, arith}
+use Rattle.std.proofs.Common.{◌≡◌, ℕ, None, sym, ap, ◌∙◌, arith}
 use Rattle.plan.specs.Views.{plan_of}
 use Rattle.slots.specs.Slots.{frames_of, first_slot}
-use Rattle.engine.specs.declared.terms.Terms.{Terms}
 use Rattle.engine.specs.Boxes.{Setting}
 use Rattle.engine.specs.Closing.{settled}
-use Rattle.engine.specs.Calls.{begun, opened, open_setting}
-use Rattle.engine.specs.Views.{setting_of}
+use Rattle.engine.specs.Calls.{begun}
+use Rattle.engine.specs.States.{State, with_box}
 use Rattle.engine.proofs.Fronts.{first-near}
 use Rattle.engine.proofs.engine.Engine.open.Goals as goal
 
@@ -19,23 +18,12 @@ pub returns-in-Ok : goal.returns-in-Ok
 returns-in-Ok g c =
     let p = c.in-Ok.ensures in
     let close = g.P.Policy.closing c.args.policy.now in
-    let b = c.begin-engine.result in
-    let last = c.settle.new.self in
-    let terms = c.settle.ensures.terms ∙ c.begin-engine.ensures.terms in
+    let plan = plan_of c.args.plan.now in
     let rate = p.1 in
-    let first : c.first_slot.result ≡ first_slot (plan_of c.args.plan.now).rate c.args.reading =
+    let first : c.first_slot.result ≡ first_slot plan.rate c.args.reading =
     c.first_slot.ensures.answer ∙ ap (λ F. first_slot F c.args.reading) rate in
-    let made : ℕ → ℕ → Setting = λ F n. record { id = (plan_of c.args.plan.now).id; rate = F; ports = (plan_of c.args.plan.now).ports; first = n } in
-    let own : setting_of b.terms ≡ open_setting (plan_of c.args.plan.now) c.args.reading =
-    ap setting_of c.begin-engine.ensures.terms
-    ∙ (ap (λ F. made F c.first_slot.result) rate ∙ ap (made (plan_of c.args.plan.now).rate) first) in
-    let empty = c.begin-engine.ensures.next in
-    record {
-      shut = ap (λ (t : Terms). t.shut) terms ∙ (sym p.0 ∙ cc);
-      setting = λ _. ap setting_of c.settle.ensures.terms ∙ own;
-      opens = λ _.
-          c.settle.ensures.next
-          ∙ (ap (settled close (setting_of b.terms)) empty
-          ∙ (ap (λ (t : Terms). settled close (setting_of b.terms) (begun (setting_of t) c.args.reading)) (sym c.begin-engine.ensures.terms)
-          ∙ ap (λ (s : Setting). opened close s c.args.reading) own));
-    }
+    let made : ℕ → ℕ → Setting = λ F n. record { id = plan.id; rate = F; ports = plan.ports; first = n } in
+    let own = ap (λ F. made F c.first_slot.result) rate ∙ ap (made plan.rate) first in
+    let opened_with : State → State = λ e. with_box e (settled close e.setting e.box) in
+    let next = c.settle.ensures ∙ (ap opened_with c.begin-engine.ensures ∙ ap (λ (t : Setting). opened_with (record { shut = None; setting = t; box = begun t c.args.reading })) own) in
+    record { shut = ap (λ (e : State). e.shut) next ∙ (sym p.0 ∙ cc); opens = λ _. next }

@@ -9,7 +9,7 @@ use Rattle.engine.proofs.engine.Engine.past_complete.Goals as goal
 pub loop-slot-preserved : goal.loop-slot-preserved
 loop-slot-preserved c =
     let s = c.args.self.now in
-    let g = setting_of s.terms in
+    let g = setting_of s in
     let end = c.last_slot_by-end.ensures.answer in
     let more : c.loop-slot.slot < upto g (s.latest + 100000) = omega (arith, end) in
     sym (beyond-more (complete g (box_of s)) (upto g (s.latest + 100000)) c.loop-slot.slot more (sym c.if-not-is_complete.ensures)) ∙ c.loop-slot.invariant
@@ -17,13 +17,13 @@ loop-slot-preserved c =
 pub returns-then-not-is_complete-clause-value : goal.returns-then-not-is_complete-clause-value
 returns-then-not-is_complete-clause-value c =
     let s = c.args.self.now in
-    let g = setting_of s.terms in
+    let g = setting_of s in
     sym (beyond-stop (complete g (box_of s)) (upto g (s.latest + 100000)) c.loop-slot.slot (sym c.if-not-is_complete.ensures)) ∙ c.loop-slot.invariant
 
 pub returns-clause-value : goal.returns-clause-value
 returns-clause-value c =
     let s = c.args.self.now in
-    let g = setting_of s.terms in
+    let g = setting_of s in
     let k = upto g (s.latest + 100000) in
     let end = c.last_slot_by-end.ensures.answer in
     elim (cases_lt c.args.from k) [

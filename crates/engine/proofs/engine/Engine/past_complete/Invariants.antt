@@ -5,4 +5,4 @@ use Rattle.engine.proofs.engine.Engine.past_complete.Given as goal
 
 abbrev pub invariant-loop-slot : goal.invariant-loop-slot
 invariant-loop-slot l =
-    past_complete_of (setting_of l.self.terms) (box_of l.self) l.slot ≡ past_complete_of (setting_of l.self.terms) (box_of l.self) l.from
+    past_complete_of (setting_of l.self) (box_of l.self) l.slot ≡ past_complete_of (setting_of l.self) (box_of l.self) l.from

@@ -7,7 +7,7 @@ use Rattle.engine.proofs.engine.Engine.past_ripe.Goals as goal
 pub loop-slot-preserved : goal.loop-slot-preserved
 loop-slot-preserved g c =
     let s = c.args.self.now in
-    let t = ripe (g.P.Policy.closing c.args.policy.now) (setting_of s.terms) (box_of s) in
+    let t = ripe (g.P.Policy.closing c.args.policy.now) (setting_of s) (box_of s) in
     let n = c.loop-slot.slot in
     let one : n ≡ n - 1 + 1 = omega arith in
     sym (ap (λ k. max s.front k) (ap (highest t) one ∙ highest_less t (n - 1) (sym c.if-is_ripe.ensures))) ∙ c.loop-slot.invariant
@@ -15,7 +15,7 @@ loop-slot-preserved g c =
 pub returns-then-is_ripe-clause-value : goal.returns-then-is_ripe-clause-value
 returns-then-is_ripe-clause-value g c =
     let s = c.args.self.now in
-    let t = ripe (g.P.Policy.closing c.args.policy.now) (setting_of s.terms) (box_of s) in
+    let t = ripe (g.P.Policy.closing c.args.policy.now) (setting_of s) (box_of s) in
     let n = c.loop-slot.slot in
     let one : n ≡ n - 1 + 1 = omega arith in
     let top = ap (highest t) one ∙ highest_here t (n - 1) (sym c.if-is_ripe.ensures) in
@@ -25,7 +25,7 @@ returns-then-is_ripe-clause-value g c =
 pub returns-clause-value : goal.returns-clause-value
 returns-clause-value g c =
     let s = c.args.self.now in
-    let t = ripe (g.P.Policy.closing c.args.policy.now) (setting_of s.terms) (box_of s) in
+    let t = ripe (g.P.Policy.closing c.args.policy.now) (setting_of s) (box_of s) in
     let n = c.loop-slot.slot in
     let within = highest-within t n in
     let none : s.front ≡ max s.front (highest t n) = omega (arith, within) in

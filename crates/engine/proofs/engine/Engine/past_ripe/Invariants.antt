@@ -6,5 +6,5 @@ use Rattle.engine.proofs.engine.Engine.past_ripe.Given as goal
 
 abbrev pub invariant-loop-slot : goal.invariant-loop-slot
 invariant-loop-slot g l =
-    let t = ripe (g.P.Policy.closing l.policy) (setting_of l.self.terms) (box_of l.self) in
-    max l.front (highest t l.slot) ≡ max l.front (highest t (upto (setting_of l.self.terms) l.self.latest))
+    let t = ripe (g.P.Policy.closing l.policy) (setting_of l.self) (box_of l.self) in
+    max l.front (highest t l.slot) ≡ max l.front (highest t (upto (setting_of l.self) l.self.latest))

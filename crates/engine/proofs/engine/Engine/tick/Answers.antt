@@ -1,9 +1,10 @@
-use Rattle.std.proofs.Common.{◌≡◌, ℕ, ◌+◌, ◌≤◌, max, Ok, ap, ◌∙◌, arith, le-ltb}
+use Rattle.std.proofs.Common.{◌≡◌, ℕ, ◌+◌, ◌≤◌, max, Ok, sym, ap, ◌∙◌, arith, le-ltb}
 use Rattle.engine.specs.Boxes.{Box}
 use Rattle.engine.specs.Closing.{settled}
-use Rattle.engine.specs.Calls.{tick_said, timed}
-use Rattle.engine.specs.Views.{setting_of, box_of}
-use Rattle.engine.proofs.Shuts.{opens}
+use Rattle.engine.specs.Calls.{tick_by, tick_said, ticked, timed}
+use Rattle.engine.specs.States.{with_box}
+use Rattle.engine.specs.Views.{setting_of, box_of, state_of}
+use Rattle.engine.proofs.Shuts.{opens, left_open}
 use Rattle.engine.proofs.engine.Engine.tick.Goals as goal
 
 passes : (s : Box) (r : ℕ) → r ≤ 4000000000000000 → r ≤ s.latest + 60000000 → tick_said s r ≡ Ok (max r s.latest)
@@ -18,6 +19,9 @@ returns g c =
     let l = c.max-latest.ensures in
     record {
       answer = rw (o, said) (cc);
-      next = rw (o, said) (c.settle.ensures.next ∙ ap (λ n. settled close (setting_of s.terms) (timed (box_of s) n)) l);
-      terms = c.settle.ensures.terms;
+      next =
+          c.settle.ensures
+          ∙ (ap (λ n. with_box (state_of s) (settled close (setting_of s) (timed (box_of s) n))) l
+          ∙ (ap (λ r. with_box (state_of s) (tick_by close (setting_of s) (box_of s) r)) (sym said)
+          ∙ left_open (state_of s) (ticked close (setting_of s) (box_of s) c.args.reading) o));
     }
