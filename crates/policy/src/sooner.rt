@@ -5,7 +5,7 @@ ghost use Rattle.std.proofs.Common.{rules};
 use crate::policy::Policy;
 
 // A slot closes as soon as one of two policies says so.
-#[derive(Clone, Copy, Drop)]
+#[derive(Clone, Copy, PartialEq, Eq, Hash, Debug, Drop)]
 pub struct Sooner<A, B> {
     one: A,
     other: B,
