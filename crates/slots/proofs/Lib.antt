@@ -1,3 +1,2 @@
-mod Parts
 pub mod Stamped
 pub mod Aligned

@@ -1,8 +1,16 @@
 -- The laws of stamps.
-use Rattle.std.proofs.Common.{ℕ, suc, ◌+◌, ◌*◌, ◌<◌, ◌≤◌, div-lt_iff_lt-mul, le-div_iff_mul-le, arith}
+use Rattle.std.proofs.Common.{◌≡◌, ℕ, suc, ◌+◌, ◌*◌, ◌/◌, ◌%◌, ◌<◌, ◌≤◌, sym, ap, ◌∙◌, div-lt_iff_lt-mul, le-div_iff_mul-le, div-add-mod', arith}
+use native.Mathlib.Nat.{mul-add-div_right}
 use Rattle.std.proofs.lemmas.Bool.{leb-true}
 use Rattle.slots.specs.Slots.{stamp_of, first_slot}
-use Rattle.slots.specs.Laws.{StampsRise, FirstSlot, LastSlot, WindowSpans}
+use Rattle.slots.specs.Laws.{OwnSecond, StampsRise, FirstSlot, LastSlot, WindowSpans}
+
+-- whole seconds and the rest apart
+pub own-second : OwnSecond
+own-second F n pos =
+    let e : n * 1000000 ≡ n / F * 1000000 * F + n % F * 1000000 =
+    let d = ap (λ x. x * 1000000) (sym (div-add-mod' n F)) in omega arith in
+    ap (λ x. x / F) e ∙ mul-add-div_right pos (n / F * 1000000) (n % F * 1000000)
 
 -- a stamp is before a reading, or not, as the products are
 module _ (F n r : ℕ) (pos : 0 < F) where

@@ -8,10 +8,7 @@ use crate::rate::Rate;
 fn nearest(scaled: u64, time_base: u64, frames: u64) -> Option<u64>
     ensures { result ≡ nearest_of scaled time_base frames }
 {
-    if time_base == 0 {
-        return None;
-    }
-    let below = scaled / time_base;
+    let below = scaled.checked_div(time_base)?;
     let past = scaled % time_base;
     if past < frames {
         Some(below)
@@ -28,8 +25,7 @@ impl Rate {
         ensures { result ≡ place_of (frames_of self) time_base count }
     {
         let scaled = u64::from(count) * self.frames;
-        let k = nearest(scaled, u64::from(time_base), self.frames)?;
-        (k < self.frames).then_some(k)
+        nearest(scaled, u64::from(time_base), self.frames).filter(|k| *k < self.frames)
     }
 
     // The slot of a frame with the SOC and the count, from a sender with the time base; none if the count is of no slot.

@@ -1,7 +1,6 @@
 ghost use Rattle.std.specs.Prelude.{◌≡◌, ◌+◌, ◌-◌, ◌*◌, ◌/◌, ◌^◌, ◌<◌, min};
 ghost use Rattle.slots.specs.Laws.{FirstSlot, LastSlot, OwnSecond, StampsRise};
-ghost use Rattle.slots.specs.Slots.{count_of, first_slot, frames_of, last_slot_at, rate_from, soc_of, stamp_of};
-ghost use Rattle.std.specs.Option.{option_map};
+ghost use Rattle.slots.specs.Slots.{count_of, first_slot, frames_of, last_slot_at, soc_of, stamp_of};
 
 use crate::rate::Rate;
 
@@ -9,26 +8,6 @@ use crate::rate::Rate;
 const SECOND: u64 = 1_000_000;
 
 impl Rate {
-    // The rate of so many frames a second, if there is one.
-    pub fn new(frames: u16) -> Option<Rate>
-        ensures { option_map frames_of result ≡ rate_from frames }
-    {
-        if frames >= 1 && frames <= 120 {
-            Some(Rate {
-                frames: u64::from(frames),
-            })
-        } else {
-            None
-        }
-    }
-
-    // How many frames a second.
-    pub fn frames(self) -> u16
-        ensures { result ≡ frames_of self }
-    {
-        self.frames as u16
-    }
-
     // The stamp of a slot. One that is too large for the answer's type is answered as the largest.
     pub fn stamp(self, slot: u64) -> u64
         ensures answer { result ≡ min (stamp_of (frames_of self) slot) (2 ^ 64 - 1) }
@@ -37,7 +16,7 @@ impl Rate {
     {
         (slot / self.frames)
             .saturating_mul(SECOND)
-            .saturating_add(slot % self.frames * SECOND / self.frames)
+            .saturating_add(u64::from(self.slot_count(slot)))
     }
 
     // The second of a slot. One that is too large for a SOC is answered as the largest.
@@ -45,7 +24,7 @@ impl Rate {
         ensures answer { result ≡ min (soc_of (frames_of self) slot) (2 ^ 32 - 1) }
         ensures whole { slot < 4294967296 * frames_of self → result ≡ soc_of (frames_of self) slot }
     {
-        (slot / self.frames).min(u64::from(u32::MAX)) as u32
+        u32::try_from(slot / self.frames).unwrap_or(u32::MAX)
     }
 
     // The count of a slot within its second, in millionths.

@@ -1,6 +1,8 @@
-use Rattle.std.proofs.Common.{arith, rules}
-use Rattle.slots.proofs.Parts.{soc-small}
+use Rattle.std.proofs.Common.{◌<◌, div-lt_iff_lt-mul, arith}
+use Rattle.std.proofs.lemmas.Grind.{common_steps}
+use Rattle.slots.specs.Slots.{soc_of}
 use Rattle.slots.proofs.rate.Rate.slot_soc.Goals as goal
 
-pub returns : goal.returns
-returns c = record { answer = search rules; whole = λ h. let s = soc-small c.args.self.frames c.args.slot c.args.self.some h in omega arith }
+pub returns-clause-whole : goal.returns-clause-whole
+returns-clause-whole c h =
+    let small : soc_of c.args.self.frames c.args.slot < 4294967296 = (div-lt_iff_lt-mul c.args.self.some).1 h in grind (arith, common_steps)

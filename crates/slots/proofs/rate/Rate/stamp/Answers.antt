@@ -1,13 +1,14 @@
-use Rattle.std.proofs.Common.{arith}
-use Rattle.slots.proofs.Parts.{own-second, count_small, soc-small}
-use Rattle.slots.proofs.Stamped.{stamps_rise}
+use Rattle.std.proofs.Common.{div-lt_iff_lt-mul, arith}
+use Rattle.slots.proofs.Stamped.{own-second, stamps_rise}
 use Rattle.slots.proofs.rate.Rate.stamp.Goals as goal
 
-pub returns : goal.returns
-returns c =
-    let F = c.args.self.frames in
-    let n = c.args.slot in
-    let pos = c.args.self.some in
-    let own = own-second F n pos in
-    let less = count_small F n pos in
-    record { answer = omega arith; whole = λ h. let s = soc-small F n pos h in omega arith; laws = (stamps_rise, own-second) }
+pub returns-clause-answer : goal.returns-clause-answer
+returns-clause-answer c = let own = own-second c.args.self.frames c.args.slot c.args.self.some in omega arith
+
+pub returns-clause-whole : goal.returns-clause-whole
+returns-clause-whole c h =
+    let own = own-second c.args.self.frames c.args.slot c.args.self.some in
+    let small = (div-lt_iff_lt-mul c.args.self.some).1 h in omega arith
+
+pub returns-clause-laws : goal.returns-clause-laws
+returns-clause-laws c = (stamps_rise, own-second)
