@@ -49,11 +49,9 @@ fn step(register: u16, byte: u8) -> u16
 pub fn check_word(bytes: &[u8]) -> u16
     ensures { result ≡ check_word_of bytes.now }
 {
-    let mut register = 0xffff;
-    for byte in bytes {
-        register = step(register, *byte);
-    }
-    register
+    bytes
+        .iter()
+        .fold(0xffff, |register, byte| step(register, *byte))
 }
 
 // The worked example of the definition: the digits 1 to 9 have the check word 29B1h.
