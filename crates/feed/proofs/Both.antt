@@ -29,7 +29,7 @@ both_wait a b (Tick r ∷ ops) =
     record {
       first = Tick r ∷ s.first;
       second = Tick r ∷ s.second;
-      waits = s.waits;
+      waits = cc;
       first_ticks = ap (λ (rs : List ℕ). r ∷ rs) s.first_ticks;
       second_ticks = ap (λ (rs : List ℕ). r ∷ rs) s.second_ticks;
     }

@@ -1,5 +1,5 @@
 -- What a next that succeeded tells, and what becomes of it under a layer.
-use Rattle.std.proofs.Common.{◌≡◌, ℕ, Bool, true, false, cond, List, [], ◌∷◌, ◌++◌, length, take, drop, Ok, Err, Result, sym, refl, ap, ◌∙◌, arith}
+use Rattle.std.proofs.Common.{◌≡◌, ℕ, Bool, true, false, cond, List, [], ◌∷◌, ◌++◌, length, take, drop, Ok, Err, Result, sym, refl, ap, ◌∙◌}
 use Rattle.std.proofs.lemmas.List.{take_at, drop_at}
 use Rattle.common.specs.declared.fault.Fault.{Fault}
 use Rattle.common.specs.declared.fault.Fault.TheVariants.{Buffer}
@@ -20,17 +20,18 @@ pub record Came (ws : List Waiting) (b : List ℕ) (t : Taken) : Type 0 where
   pub waited : ws ≡ first ∷ others
   pub told : t ≡ taken_of first
 
-by-room : (s : Bool) (ws : List Waiting) (t : Taken) → Ok t ≡ cond s (Err Buffer) (first_taken ws) → (s ≡ false) × (Ok t ≡ first_taken ws)
-by-room true ws t e = absurd (let z : ◌≡◌ {A = ℕ} 0 1 = cc in let w : ⊥ = omega arith in w)
-by-room false ws t e = (refl, e)
+-- what succeeds behind the check of a buffer had room, and succeeded by itself
+pub by-room : {X : Type 0} (s : Bool) (r : Result X Fault) (x : X) → Ok x ≡ cond s (Err Buffer) r → (s ≡ false) × (Ok x ≡ r)
+by-room true r x e = absurd (cc)
+by-room false r x e = (refl, e)
 
 pub came : (ws : List Waiting) (b : List ℕ) (t : Taken) → Ok t ≡ next_said ws b → Came ws b t
 came [] b t e =
-    let h = by-room (short b) [] t e in
+    let h = by-room (short b) (first_taken []) t e in
     let f : ◌≡◌ {A = Result Taken Fault} (Ok t) (first_taken []) = h.1 in
-    absurd (let z : ◌≡◌ {A = ℕ} 0 1 = cc in let w : ⊥ = omega arith in w)
+    absurd (cc)
 came (w ∷ ws) b t e =
-    let h = by-room (short b) (w ∷ ws) t e in
+    let h = by-room (short b) (first_taken (w ∷ ws)) t e in
     let f : ◌≡◌ {A = Result Taken Fault} (Ok t) (Ok (taken_of w)) = h.1 in
     record { first = w; others = ws; room = h.0; waited = refl; told = cc }
 

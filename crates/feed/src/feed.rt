@@ -7,6 +7,16 @@ use common::{Fault, Port};
 // The most bytes that a frame of a feed has, and so the fewest that a lent buffer may have.
 pub const LONGEST_FRAME: usize = 1040;
 
+// Refuses a buffer that is shorter than the longest frame.
+pub fn check_room(buffer: &[u8]) -> Result<(), Fault>
+    ensures { result ≡ tick_said buffer.now }
+{
+    if buffer.len() < LONGEST_FRAME {
+        return Err(Fault::Buffer);
+    }
+    Ok(())
+}
+
 // A frame that was taken off a feed: the line it came in by, and how many bytes it has.
 #[derive(Clone, Copy, PartialEq, Eq, Debug)]
 pub struct Taken {

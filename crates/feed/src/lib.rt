@@ -6,7 +6,7 @@ mod joined;
 mod mapped;
 mod silent;
 
-pub use feed::{Feed, LONGEST_FRAME, Taken};
+pub use feed::{Feed, LONGEST_FRAME, Taken, check_room};
 pub use joined::Joined;
 pub use mapped::{FrameMap, Mapped};
 pub use silent::Silent;

@@ -1,6 +1,6 @@
 ghost use Rattle.feed.specs.Silent.{silent};
 
-use crate::feed::{Feed, LONGEST_FRAME, Taken};
+use crate::feed::{Feed, Taken, check_room};
 use common::Fault;
 
 // Nothing ever waits.
@@ -11,16 +11,11 @@ impl Feed for Silent {
     ghost meaning = { λ _. silent };
 
     fn tick(&mut self, _reading: u64, scratch: &mut [u8]) -> Result<(), Fault> {
-        if scratch.len() < LONGEST_FRAME {
-            return Err(Fault::Buffer);
-        }
-        Ok(())
+        check_room(scratch)
     }
 
     fn next(&mut self, buffer: &mut [u8]) -> Result<Taken, Fault> {
-        if buffer.len() < LONGEST_FRAME {
-            return Err(Fault::Buffer);
-        }
+        check_room(buffer)?;
         Err(Fault::NothingWaits)
     }
 }
