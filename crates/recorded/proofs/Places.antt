@@ -1,79 +1,58 @@
--- The places of a recorded feed in the records of its capture.
-use Rattle.std.proofs.Common.{◌≡◌, ℕ, suc, ◌+◌, ◌-◌, ◌<◌, ◌≤◌, Bool, cond, List, ◌∷◌, ◌++◌, length, take, drop, Some, sym, ap, ◌∙◌, arith, length-drop, take-add}
-use mathlib.Core.Logic.{∥∥₁_elim}
-use mathlib.Core.List.{is_set}
-use base.Stored.{Coded-set, coded_via, coded×, coded_list, coded_ℕ}
+-- The records that a tick moves.
+use Rattle.std.proofs.Common.{◌≡◌, ℕ, suc, ◌+◌, ◌<◌, ◌≤◌, true, false, List, [], ◌∷◌, ◌++◌, take, drop, Some, None, Option, sym, refl, ap, ◌∙◌, ⊎_elim, arith, take-add}
 use Rattle.std.proofs.lemmas.List.{drop-drop}
-use Rattle.std.proofs.lemmas.List.Sums.{prefix_len-le-length}
-use Rattle.std.proofs.lemmas.Bool.{le-leb}
+use Rattle.std.specs.Option.{option_cmp}
+use Rattle.std.specs.Ordering.{ord_max, is_lt, nat_cmp}
+use Rattle.std.proofs.lemmas.Map.Keys.{ge_from_not_lt}
+use Rattle.std.proofs.lemmas.Bool.Decides.{nat_tests}
+use Rattle.std.proofs.lemmas.Bool.{cases_Bool, cases_lt, le-leb, lt-leb}
 use Rattle.capture.specs.Records.{Entry}
-use Rattle.feed.specs.Feeds.{Tick, Next}
-use Rattle.recorded.specs.Queues.{Queue, come, due, step, first}
+use Rattle.feed.specs.Feeds.{Tick}
+use Rattle.recorded.specs.Queues.{due, step}
+use Rattle.recorded.specs.Recordings.{due_by, parted}
 
--- ---- records are equal in one way
-abbrev Parts : Type 0
-Parts = ℕ × (ℕ × List ℕ)
+-- behind what has come by a reading, a higher one comes to what it would have come to alone
+due-higher : (t r : ℕ) (es : List Entry) → t ≤ r → due t es + due r (drop (due t es) es) ≡ due r es
+due-higher t r [] h = refl
+due-higher t r (e ∷ es) h =
+    ⊎_elim
+    (λ (late : t < e.reading). rw (lt-leb e.reading t late) (omega arith))
+    (λ (early : e.reading ≤ t).
+    let o : 1 + due t es ≡ suc (due t es) = omega arith in
+    let i = due-higher t r es h in
+    rw (le-leb e.reading t early, le-leb e.reading r (omega arith), o) (omega (arith, i)))
+    (cases_lt t e.reading)
 
-entry_set : IsSet Entry
-entry_set =
-    Coded-set
-    (coded_via (coded× coded_ℕ (coded× coded_ℕ (coded_list coded_ℕ))) (λ (e : Entry). (e.reading, (e.port, e.frame)))
-    (λ x y p. ap (λ (t : Parts). record { reading = t.0; port = t.1.0; frame = t.1.1 }) p))
+-- and a lower one comes to nothing
+due-lower : (t r : ℕ) (es : List Entry) → r ≤ t → due r (drop (due t es) es) ≡ 0
+due-lower t r [] h = refl
+due-lower t r (e ∷ es) h =
+    ⊎_elim
+    (λ (late : t < e.reading). rw (lt-leb e.reading t late) (rw (lt-leb e.reading r (omega arith)) refl))
+    (λ (early : e.reading ≤ t).
+    let o : 1 + due t es ≡ suc (due t es) = omega arith in
+    rw (le-leb e.reading t early, o) (due-lower t r es h))
+    (cases_lt t e.reading)
 
-pub untied : {xs ys : List Entry} → ∥ xs ≡ ys ∥₁ → xs ≡ ys
-untied {xs} {ys} h = ∥∥₁_elim h (is_set entry_set xs ys) (λ e. e)
+-- the higher of the readings ticked so far and one more
+abbrev higher : Option ℕ → ℕ → Option ℕ
+higher latest r = ord_max (option_cmp nat_cmp) latest (Some r)
 
--- ---- past one more record that is due, the n before it being so
-pub record Passed (r n : ℕ) (from es : List Entry) : Type 0 where
-  pub place : es ≡ drop (n + 1) from
-  pub count : n + 1 + due r es ≡ due r from
-  pub within : n + 1 ≤ length from
+lt_from_is_lt : (r t : ℕ) → is_lt (nat_cmp r t) ≡ true → r ≤ t
+lt_from_is_lt r t h = grind (arith, nat_tests)
 
-pub passed : (r n : ℕ) (from xs : List Entry) (e : Entry) (es : List Entry) → xs ≡ drop n from → n + due r xs ≡ due r from → xs ≡ e ∷ es → e.reading ≤ r → Passed r n from es
-passed r n from xs e es place count at h =
-    let d : due r xs ≡ 1 + due r es =
-    ap (due r) at ∙ ap (λ (b : Bool). cond b (1 + due r es) 0) (le-leb e.reading r h) in
-    let l = prefix_len-le-length (come r) from in
-    record {
-      place = ap (drop 1) (sym at ∙ place) ∙ drop-drop 1 n from;
-      count = omega (arith, d, count);
-      within = omega (arith, d, count, l);
-    }
+due-by-higher : (latest : Option ℕ) (r : ℕ) (es : List Entry) → due_by (higher latest r) es ≡ due_by latest es + due r (drop (due_by latest es) es)
+due-by-higher None r es = omega arith
+due-by-higher (Some t) r es =
+    ⊎_elim
+    (λ (lower : is_lt (nat_cmp r t) ≡ true). rw lower (let i = due-lower t r es (lt_from_is_lt r t lower) in omega (arith, i)))
+    (λ (no : is_lt (nat_cmp r t) ≡ false). rw no (sym (due-higher t r es (ge_from_not_lt r t no))))
+    (cases_Bool (is_lt (nat_cmp r t)))
 
-abbrev queue : List Entry → List Entry → Queue
-queue waiting coming = record { waiting = waiting; coming = coming }
-
--- ---- a tick: w records of xs wait before ys, and n more once it has gone on to zs
-pub record Ticked (r w n : ℕ) (xs ys zs : List Entry) : Type 0 where
-  pub within : w + n ≤ length xs
-  pub tied : drop (w + n) xs ≡ zs
-  pub queue_is : queue (take (w + n) xs) zs ≡ step (queue (take w xs) ys) (Tick r)
-
-pub ticked : (r w n : ℕ) (xs ys zs : List Entry) → drop w xs ≡ ys → w ≤ length xs → n ≡ due r ys → zs ≡ drop (due r ys) ys → Ticked r w n xs ys zs
-ticked r w n xs ys zs tied within count place =
-    let l = prefix_len-le-length (come r) ys in
-    let d = length-drop w xs in
-    let t = ap length tied in
-    let waiting : take (w + n) xs ≡ take w xs ++ take (due r ys) ys =
-    take-add w n xs ∙ (ap (λ (vs : List Entry). take w xs ++ take n vs) tied ∙ ap (λ m. take w xs ++ take m ys) count) in
-    record {
-      within = omega (arith, count, l, d, t);
-      tied = sym (drop-drop n w xs) ∙ (ap (drop n) tied ∙ (ap (λ m. drop m ys) count ∙ sym place));
-      queue_is = ap (λ (vs : List Entry). queue vs zs) waiting ∙ ap (queue (take w xs ++ take (due r ys) ys)) place;
-    }
-
--- ---- a next: the first of w records of xs is taken
-pub record Nexted (w : ℕ) (e : Entry) (xs es ys : List Entry) : Type 0 where
-  pub tied : drop (w - 1) es ≡ drop w xs
-  pub first_is : Some e ≡ first (take w xs)
-  pub queue_is : queue (take (w - 1) es) ys ≡ step (queue (take w xs) ys) Next
-
-pub nexted : (w : ℕ) (e : Entry) (xs es ys : List Entry) → 0 < w → xs ≡ e ∷ es → Nexted w e xs es ys
-nexted w e xs es ys some at =
-    let more : w ≡ suc (w - 1) = omega arith in
-    let front : take w xs ≡ e ∷ take (w - 1) es = ap (λ n. take n xs) more ∙ ap (take (suc (w - 1))) at in
-    record {
-      tied = sym (ap (λ n. drop n xs) more ∙ ap (drop (suc (w - 1))) at);
-      first_is = sym (ap first front);
-      queue_is = ap (λ (vs : List Entry). queue vs ys) (sym (ap (drop 1) front));
-    }
+pub ticked : (latest : Option ℕ) (r : ℕ) (es : List Entry) → parted (due_by (higher latest r) es) es ≡ step (parted (due_by latest es) es) (Tick r)
+ticked latest r es =
+    let n = due_by latest es in
+    let m = due r (drop n es) in
+    ap (λ k. parted k es) (due-by-higher latest r es)
+    ∙ (ap (λ ws. record { waiting = ws; coming = drop (n + m) es }) (take-add n m es)
+    ∙ ap (λ cs. record { waiting = take n es ++ take m (drop n es); coming = cs }) (sym (drop-drop m n es)))

@@ -1,5 +1,5 @@
--- The records of a sound capture: their readings never fall, and they are no more than its bytes.
-use Rattle.std.proofs.Common.{◌≡◌, ℕ, zero, suc, ◌≤◌, Bool, true, ◌&&◌, ◌||◌, List, [], ◌∷◌, length, take, drop, Ok, ap, subst, arith, length-drop}
+-- The records of a sound capture: their readings never fall.
+use Rattle.std.proofs.Common.{◌≡◌, ℕ, zero, suc, ◌≤◌, Bool, true, ◌&&◌, ◌||◌, List, [], ◌∷◌, length, take, drop, Ok, subst, arith}
 use Rattle.std.specs.Str.{bytes_eq}
 use Rattle.std.proofs.lemmas.Bool.{cond_both, and_parts, ne_eqb}
 use Rattle.capture.specs.Records.{Entry, entry_at, behind, sound_at, leading, sound_behind, header, records_of}
@@ -24,17 +24,6 @@ leading-rises (suc n) low bs h =
     ((sized low bs p.0).rises, leading-rises n (entry_at bs).reading (behind bs) p.1))
     (λ none. tt)
 
-leading-few : (n : ℕ) (bs : List ℕ) → length (leading n bs) ≤ n
-unfolding leading
-leading-few zero bs = omega arith
-leading-few (suc n) bs =
-    cond_both (sound_at 0 bs) (entry_at bs ∷ leading n (behind bs)) [] (λ (es : List Entry). length es ≤ suc n)
-    (λ some. let l = leading-few n (behind bs) in omega (arith, l)) (λ none. omega arith)
-
-pub none_lead : (bs : List ℕ) → bs ≡ [] → leading (length bs) bs ≡ []
-unfolding leading
-none_lead bs e = ap (λ (xs : List ℕ). leading (length xs) xs) e
-
 module _ (bs : List ℕ) (es : List Entry) (h : records_of bs ≡ Ok es) where
   abbrev body : List ℕ
   body = drop 5 bs
@@ -47,8 +36,3 @@ module _ (bs : List ℕ) (es : List Entry) (h : records_of bs ≡ Ok es) where
 
   pub records_rise : Rises 0 es
   records_rise = subst (Rises 0) behind-header.1 (leading-rises (length body) 0 body behind-header.0)
-
-  pub records_few : length es ≤ length bs
-  records_few =
-      let l = leading-few (length body) body in
-      let e = ap length behind-header.1 in let d = length-drop 5 bs in omega (arith, l, e, d)
