@@ -1,4 +1,3 @@
-mod Holds
 mod Sound
 mod Stamps
 pub mod Moves

@@ -10,7 +10,7 @@ use Rattle.shift.specs.Shifts.{in_soc, is_zero, moved, soc_of, target_by, target
 use Rattle.feed.specs.Feeds.{Waiting}
 use Rattle.feed.specs.Maps.{changed}
 use Rattle.shift.specs.Lines.{by_line}
-use Rattle.shift.specs.Laws.{due, Moves, SoundMoves, UnsoundStays, ZeroStays, ZeroLayer}
+use Rattle.shift.specs.Laws.{due, Moves, SoundMoves, ZeroStays, ZeroLayer}
 use Rattle.shift.proofs.Sound.{sound-checks, sound-long, told-alike}
 use Rattle.shift.proofs.Stamps.{stamp-before, stamp-behind, stamp-soc, stamp-alike}
 
@@ -19,10 +19,10 @@ in_range : (t : ℤ) → pos 0 ≤ℤ t → t ≤ℤ pos 4294967295 → (v : ℕ
 in_range (pos n) low high =
     let h : n ≤ 4294967295 = omega (arith, ints) in
     (n, cond-true (leb n 4294967295) (Some n) None (le-leb n 4294967295 h), refl, omega arith)
-in_range (negsuc n) low high = absurd (let z : ⊥ = omega (arith, ints) in z)
+in_range (negsuc n) low high = absurd (omega (arith, ints))
 
 too_early : (t : ℤ) → t <ℤ pos 0 → in_soc t ≡ None
-too_early (pos n) h = absurd (let z : ⊥ = omega (arith, ints) in z)
+too_early (pos n) h = absurd (omega (arith, ints))
 too_early (negsuc n) h = refl
 
 too_late : (t : ℤ) → pos 4294967295 <ℤ t → in_soc t ≡ None
@@ -37,7 +37,7 @@ none_either_way false o e = e
 
 no_seconds : (z : ℤ) (soc : ℕ) → is_zero z ≡ true → pos soc ≡ pos soc +ℤ z
 no_seconds (pos n) soc e = let h : soc ≡ soc + n = omega (arith, eqb-true n 0 e) in ap pos h
-no_seconds (negsuc n) soc e = absurd (let z : ◌≡◌ {A = ℕ} 0 1 = cc in let n : ⊥ = omega arith in n)
+no_seconds (negsuc n) soc e = absurd (cc)
 
 -- where a frame's target is known, so is what it becomes
 module _ (z : ℤ) (bs : List ℕ) (t : Told) (sound : classified bs ≡ Ok t) where
@@ -78,9 +78,6 @@ module _ (z : ℤ) (bs : List ℕ) (t : Told) (sound : classified bs ≡ Ok t) w
 
 pub sound-moves : SoundMoves
 sound-moves = moves
-
-pub unsound-stays : UnsoundStays
-unsound-stays z bs e p = ap (λ r. stamped (target_by r (soc_of bs) z) bs) p
 
 zero_by : (r : Result Told Fault) (o : Option ℕ) → target_by r o (pos 0) ≡ None
 zero_by (Ok t) (Some soc) = refl

@@ -1,5 +1,5 @@
 -- What a frame is told as hangs on a few of its bytes.
-use Rattle.std.proofs.Common.{◌≡◌, ℕ, ◌≤◌, Bool, true, false, cond, eqb, ltb, List, length, Ok, Err, Result, refl, ◌∙◌, arith}
+use Rattle.std.proofs.Common.{◌≡◌, ℕ, ◌≤◌, Bool, true, false, cond, eqb, ltb, List, length, Ok, Err, Result, refl, ◌∙◌}
 use Rattle.std.proofs.lemmas.Bool.{ltb-false}
 use Rattle.common.specs.declared.fault.Fault.{Fault}
 use Rattle.common.specs.declared.fault.Fault.TheVariants.{Short, FrameSize, CheckWord}
@@ -14,10 +14,10 @@ use Rattle.wire.specs.Frames.{Told, telling, body_of, checks, told_by, classifie
 -- a test before a refusal, or after one, was passed
 passed : {X : Type 0} (b : Bool) (r : Result X Fault) (e : Fault) (x : X) → cond b r (Err e) ≡ Ok x → (b ≡ true) × (r ≡ Ok x)
 passed true r e x p = (refl, p)
-passed false r e x p = absurd (let z : ◌≡◌ {A = ℕ} 0 1 = cc in let n : ⊥ = omega arith in n)
+passed false r e x p = absurd (cc)
 
 past : {X : Type 0} (b : Bool) (r : Result X Fault) (e : Fault) (x : X) → cond b (Err e) r ≡ Ok x → b ≡ false
-past true r e x p = absurd (let z : ◌≡◌ {A = ℕ} 0 1 = cc in let n : ⊥ = omega arith in n)
+past true r e x p = absurd (cc)
 past false r e x p = refl
 
 checked_by : (r : Result Header Fault) (bs : List ℕ) (t : Told) → told_by r bs ≡ Ok t → (checks bs ≡ true) × ((h : Header) × (r ≡ Ok h))
@@ -25,7 +25,7 @@ checked_by (Ok h) bs t p =
     let right : Result Told Fault = Ok (telling h.kind (body_of bs)) in
     let size = passed (eqb h.size (length bs)) (cond (checks bs) right (Err CheckWord)) FrameSize t p in
     ((passed (checks bs) right CheckWord t size.1).0, (h, refl))
-checked_by (Err e) bs t p = absurd (let z : ◌≡◌ {A = ℕ} 0 1 = cc in let n : ⊥ = omega arith in n)
+checked_by (Err e) bs t p = absurd (cc)
 
 -- a frame that passes the checks has its check word, and the least length
 pub sound-checks : (bs : List ℕ) (t : Told) → classified bs ≡ Ok t → checks bs ≡ true

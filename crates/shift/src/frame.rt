@@ -21,10 +21,8 @@ fn moved(soc: u32, seconds: i32) -> Option<u32>
 fn target(frame: &[u8], seconds: i32) -> Option<u32>
     ensures { result ≡ target_of seconds frame.now }
 {
-    match Frame::read(frame) {
-        Ok(_) => moved(u32_at(frame, SOC)?, seconds),
-        Err(_) => None,
-    }
+    Frame::read(frame).ok()?;
+    moved(u32_at(frame, SOC)?, seconds)
 }
 
 // Moves a sound frame by whole seconds, with a fresh check word.

@@ -25,26 +25,23 @@ fn held(seconds: i32) -> i32
 
 impl Shifts {
     // The shifts of the lines 0 to 15, each held to the limit.
-    pub fn new(mut seconds: [i32; 16]) -> Shifts
+    pub fn new(seconds: [i32; 16]) -> Shifts
         ensures value { result.seconds ≡ map held_to seconds }
         ensures moves { SoundMoves }
         ensures unsound { UnsoundStays }
         ensures zero { ZeroStays × ZeroLayer }
     {
-        for shift in &mut seconds {
-            *shift = held(*shift);
+        Shifts {
+            seconds: seconds.map(held),
         }
-        Shifts { seconds }
     }
 
     // The shift of a line; a number over 15 has none.
     fn of(&self, port: Port) -> i32
         ensures { result ≡ slice_index_or self.now.seconds port.0 (pos 0) }
     {
-        match self.seconds.get(usize::from(port.0)) {
-            Some(shift) => *shift,
-            None => 0,
-        }
+        let shift = self.seconds.get(usize::from(port.0));
+        shift.copied().unwrap_or(0)
     }
 }
 
