@@ -6,24 +6,6 @@ use Rattle.std.proofs.lemmas.List.Sums.{sum_by-cons}
 use Rattle.std.proofs.lemmas.Bool.{cases_eq}
 use Rattle.engine.specs.Calls.{one}
 
-abbrev total : List ℕ → ℕ
-total xs = sum_by (λ x. x) xs
-
-pub within-total : (xs : List ℕ) (i : ℕ) → get_or xs i 0 ≤ total xs
-within-total [] i = omega arith
-within-total (x ∷ xs) zero = let c = sum_by-cons (λ n. n) x xs in omega (arith, c)
-within-total (x ∷ xs) (suc i) = let c = sum_by-cons (λ n. n) x xs in let h = within-total xs i in omega (arith, c, h)
-
-pub raised_total : (xs : List ℕ) (i : ℕ) → i < length xs → total (set xs i (get_or xs i 0 + 1)) ≡ total xs + 1
-raised_total [] i h = absurd (let z : ⊥ = omega arith in z)
-raised_total (x ∷ xs) zero h =
-    let a = sum_by-cons (λ n. n) (x + 1) xs in let b = sum_by-cons (λ n. n) x xs in omega (arith, a, b)
-raised_total (x ∷ xs) (suc i) h =
-    let r = raised_total xs i (omega arith) in
-    let a = sum_by-cons (λ n. n) x (set xs i (get_or xs i 0 + 1)) in
-    let b = sum_by-cons (λ n. n) x xs in
-    omega (arith, r, a, b)
-
 pub raised_counts : (xs : List ℕ) (i : ℕ) → i < length xs → ◌≡◌ {A = ℕ → ℕ} (λ u. get_or (set xs i (get_or xs i 0 + 1)) u 0) (λ u. get_or xs u 0 + one (eqb i u))
 raised_counts xs i h =
     fun_ext (λ u.

@@ -3,6 +3,7 @@ use Rattle.std.specs.Prelude.{ℕ, ◌+◌, Bool, ◌&&◌, List, Option, nat_le
 use Rattle.slots.specs.Slots.{stamp_of, last_slot_at}
 use Rattle.plan.specs.Ports.{PortOf}
 use Rattle.combined.specs.Blocks.{Blocks}
+use Rattle.engine.specs.Limits.{window}
 
 -- what never changes: the combined code, the frames a second, the ports and the first slot
 pub record Setting : Type 0 where
@@ -46,6 +47,6 @@ upto g r = last_slot_at g.rate r + 1
 abbrev pub oldest : Setting → Box → ℕ
 oldest g s = g.first + s.written
 
--- slot n is one of the 32 from the oldest unwritten one on: only these hold frames
+-- slot n is one of the window from the oldest unwritten one on: only these hold frames
 abbrev pub within_window : ℕ → ℕ → Bool
-within_window o n = nat_le o n && nat_lt n (o + 32)
+within_window o n = nat_le o n && nat_lt n (o + window)

@@ -9,6 +9,7 @@ use Rattle.sample.specs.Samples.{SampleOf, sample_of}
 use Rattle.cells.specs.Cells.{or_else}
 use Rattle.combined.specs.Blocks.{port_at, width_of}
 use Rattle.combined.specs.Frames.{slot_frame, slot_length}
+use Rattle.engine.specs.Limits.{last_reading, longest_step, earliest, window, most_frames}
 use Rattle.engine.specs.Boxes.{Setting, Closing, Box, stamp, oldest}
 use Rattle.engine.specs.Closing.{settled, settled_by}
 
@@ -25,7 +26,7 @@ if_open None before after = after
 -- the refusal against which an engine is shut: a reading that is too large, a plan without ports, a wait that is too long; a plan whose rate is out of range has no ports
 abbrev pub open_fault : PlanOf → ℕ → ℕ → Option Fault
 open_fault p bound reading =
-    cond (nat_lt 4000000000000000 reading) (Some fault.Reading)
+    cond (nat_lt last_reading reading) (Some fault.Reading)
     (cond (length p.ports == 0 || not (nat_le 1 p.rate && nat_le p.rate 120)) (Some fault.EmptyPlan)
     (cond (window_fits p.rate bound) None (Some fault.WaitTooLong)))
 
@@ -43,7 +44,7 @@ opened closing g reading = settled closing g (begun g reading)
 -- ---- tick
 abbrev pub tick_said : Box → ℕ → Result ℕ Fault
 tick_said s reading =
-    cond (nat_lt 4000000000000000 reading || nat_lt (s.latest + 60000000) reading) (Err fault.Reading) (Ok (max reading s.latest))
+    cond (nat_lt last_reading reading || nat_lt (s.latest + longest_step) reading) (Err fault.Reading) (Ok (max reading s.latest))
 
 -- the latest reading is l
 abbrev pub timed : Box → ℕ → Box
@@ -61,9 +62,9 @@ ticked closing g s reading = tick_by closing g s (tick_said s reading)
 -- the slot of a sample: not too early, open, near enough, and without the port
 abbrev pub slot_judged : Setting → Box → ℕ → ℕ → Result Unit Fault
 slot_judged g s q n =
-    cond (nat_lt (s.latest + 100000) (stamp g n)) (Err fault.TooEarly)
+    cond (nat_lt (s.latest + earliest) (stamp g n)) (Err fault.TooEarly)
     (cond (nat_lt n s.front) (Err fault.Closed)
-    (cond (nat_le (oldest g s + 32) n) (Err fault.TooFarAhead) (cond (is_some (s.held n q)) (Err fault.Repeated) (Ok tt))))
+    (cond (nat_le (oldest g s + window) n) (Err fault.TooFarAhead) (cond (is_some (s.held n q)) (Err fault.Repeated) (Ok tt))))
 
 abbrev pub passing : {A : Type 0} → A → Result Unit Fault → Result A Fault
 passing x (Ok u) = Ok x
@@ -126,7 +127,7 @@ placed closing g s q (Err e) = s
 
 -- how many frames are judged at most
 abbrev pub exhausted : Box → Bool
-exhausted s = nat_le 1000000000000000 s.judged
+exhausted s = nat_le most_frames s.judged
 
 abbrev pub admit_said : Setting → Box → ℕ → List ℕ → Result Unit Fault
 admit_said g s q bytes = cond (exhausted s) (Err fault.Exhausted) (verdict_of (judge g s q bytes))

@@ -2,6 +2,7 @@
 use Rattle.std.specs.Prelude.{ℕ, zero, suc, ◌+◌, ◌-◌, max, Bool, cond, ◌&&◌, length, is_some, nat_le}
 use Rattle.policy.specs.Policies.{held as held_reading, held_by}
 use Rattle.cells.specs.Cells.{all_of}
+use Rattle.engine.specs.Limits.{earliest}
 use Rattle.engine.specs.Boxes.{Setting, Closing, Box, stamp, upto, oldest, within_window}
 
 -- the closing reading of slot n has come
@@ -28,7 +29,7 @@ past_ripe_of closing g s = max s.front (highest (ripe closing g s) (upto g s.lat
 
 -- from f on, past each complete slot; no frame is accepted for a slot whose stamp is over 100,000 past the latest reading
 abbrev pub past_complete_of : Setting → Box → ℕ → ℕ
-past_complete_of g s f = beyond (complete g s) (upto g (s.latest + 100000) - f) f
+past_complete_of g s f = beyond (complete g s) (upto g (s.latest + earliest) - f) f
 
 -- a box with another front
 abbrev pub with_front : Box → ℕ → Box

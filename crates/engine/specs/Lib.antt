@@ -1,3 +1,4 @@
+pub mod Limits
 pub mod Boxes
 pub mod Closing
 pub mod Calls

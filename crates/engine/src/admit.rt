@@ -1,5 +1,6 @@
 ghost use Rattle.std.specs.Prelude.{◌≡◌, ◌<◌, ◌≤◌, if◌then◌else◌, Ok, Err};
 ghost use Rattle.engine.specs.Calls.{counted, exhausted, judge as judge_of, placed, verdict_number_of, verdict_of};
+ghost use Rattle.engine.specs.Limits.{most_frames};
 ghost use Rattle.engine.specs.States.{admit_said, admitted, with_box};
 ghost use Rattle.engine.specs.Views.{box_of, setting_of, state_of};
 ghost use Rattle.common.specs.declared.fault.Fault.TheVariants.{Exhausted};
@@ -11,15 +12,15 @@ use policy::Policy;
 // How many frames are judged at most.
 const MOST_FRAMES: u64 = 1_000_000_000_000_000;
 
+// How many numbers a verdict can have: 0 for accepted, and those of the refusals.
+pub(crate) const VERDICTS: usize = 31;
+
 // The number of a verdict: 0 for accepted.
 fn verdict_number(verdict: Result<(), Fault>) -> u8
     ensures value { result ≡ verdict_number_of verdict }
     ensures few { result ≤ 30 }
 {
-    match verdict {
-        Ok(()) => 0,
-        Err(fault) => fault.number(),
-    }
+    verdict.err().map_or(0, Fault::number)
 }
 
 impl Engine {
@@ -35,7 +36,7 @@ impl Engine {
 
     // Counts a frame by its verdict.
     fn count(&mut self, verdict: Result<(), Fault>)
-        requires { self.old.judged < 1000000000000000 }
+        requires { self.old.judged < most_frames }
         ensures { state_of self.new ≡ with_box (state_of self.old) (counted (box_of self.old) (verdict_number_of verdict)) }
     {
         let i = usize::from(verdict_number(verdict));

@@ -1,5 +1,6 @@
-ghost use Rattle.std.specs.Prelude.{◌≡◌, ◌*◌, ◌≤◌};
+ghost use Rattle.std.specs.Prelude.{◌≡◌, ◌≤◌};
 ghost use Rattle.engine.specs.Closing.{past_complete_of, past_ripe_of, ripe, settled};
+ghost use Rattle.engine.specs.Limits.{slot_limit};
 ghost use Rattle.engine.specs.States.{with_box};
 ghost use Rattle.engine.specs.Views.{box_of, setting_of, state_of};
 
@@ -22,7 +23,7 @@ impl Engine {
     // have a stamp that has come and a bound that has not, so the policy is asked at most 33 times.
     fn past_ripe<P: Policy>(&self, policy: &P) -> u64
         ensures value { result ≡ past_ripe_of (P.closing policy.now) (setting_of self.now) (box_of self.now) }
-        ensures near { result ≤ 4000000001 * (setting_of self.now).rate }
+        ensures near { result ≤ slot_limit (setting_of self.now).rate }
     {
         let front = self.front;
         let end = self.terms.rate.last_slot_by(self.latest) + 1;
@@ -36,9 +37,9 @@ impl Engine {
 
     // The first slot from `from` on that is not complete.
     pub(crate) fn past_complete(&self, from: u64) -> u64
-        requires { from ≤ 4000000001 * (setting_of self.now).rate }
+        requires { from ≤ slot_limit (setting_of self.now).rate }
         ensures value { result ≡ past_complete_of (setting_of self.now) (box_of self.now) from }
-        ensures near { result ≤ 4000000001 * (setting_of self.now).rate }
+        ensures near { result ≤ slot_limit (setting_of self.now).rate }
         ensures up { from ≤ result }
     {
         let end = self.terms.rate.last_slot_by(self.latest + EARLIEST) + 1;

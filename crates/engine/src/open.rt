@@ -1,12 +1,15 @@
-ghost use Rattle.std.specs.Prelude.{◌≡◌, ◌*◌, ◌≤◌, Some, None};
+ghost use Rattle.std.specs.Prelude.{◌≡◌, ◌≤◌, Some, None};
 ghost use Rattle.engine.specs.Calls.{open_fault};
 ghost use Rattle.engine.specs.Opens.{opens_by};
+ghost use Rattle.engine.specs.Limits.{last_reading, slot_limit};
 ghost use Rattle.engine.specs.States.{begins};
 ghost use Rattle.engine.specs.Views.{fresh, state_of};
 ghost use Rattle.plan.specs.Views.{plan_of};
 ghost use Rattle.slots.specs.Slots.{frames_of};
 
+use crate::admit::VERDICTS;
 use crate::engine::Engine;
+use crate::ring::SLOTS;
 use crate::terms::Terms;
 use crate::tick::LAST_READING;
 use cells::Cell;
@@ -50,8 +53,8 @@ impl Terms {
 impl Engine {
     // An engine that holds nothing yet.
     fn begin(terms: Terms, reading: u64) -> Engine
-        requires time { reading ≤ 4000000000000000 }
-        requires near { terms.first ≤ 4000000001 * frames_of terms.rate }
+        requires time { reading ≤ last_reading }
+        requires near { terms.first ≤ slot_limit (frames_of terms.rate) }
         ensures { state_of result ≡ fresh terms reading }
     {
         let first = terms.first;
@@ -62,8 +65,8 @@ impl Engine {
             written: 0,
             ticket_out: false,
             judged: 0,
-            tally: [0; 31],
-            ring: [Cell::empty(); 32],
+            tally: [0; VERDICTS],
+            ring: [Cell::empty(); SLOTS],
         }
     }
 

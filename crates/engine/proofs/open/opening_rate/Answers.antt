@@ -11,7 +11,7 @@ use Rattle.engine.proofs.open.opening_rate.Goals as goal
 
 when_some : (b : Bool) (x y : ℕ) → Some x ≡ then_some b y → (b ≡ true) × (x ≡ y)
 when_some true x y e = (refl, cc)
-when_some false x y e = absurd (let z : ◌≡◌ {A = ℕ} 0 1 = cc in let n : ⊥ = omega arith in n)
+when_some false x y e = (cc, cc)
 
 when_none : (b : Bool) (y : ℕ) → None ≡ then_some b y → b ≡ false
 when_none false y e = refl
