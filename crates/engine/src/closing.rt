@@ -56,7 +56,6 @@ impl Engine {
         ensures { state_of self.new ≡ with_box (state_of self.old) (settled (P.closing policy.now) (setting_of self.old) (box_of self.old)) }
     {
         let ripe = self.past_ripe(policy);
-        let front = self.past_complete(ripe);
-        self.front = front;
+        self.front = self.past_complete(ripe);
     }
 }
