@@ -1,7 +1,6 @@
 ghost use Rattle.concentrator.specs.Calls.{admit_said, admitted, frame_of, length_by, lent, number_by, pull_buffer, pull_said, pulled as pulled_to, take_said, tick_said, ticked, write_said, wrote};
 ghost use Rattle.concentrator.specs.Wholes.{whole};
 ghost use Rattle.std.specs.Prelude.{◌≡◌, length, OnErr};
-ghost use Rattle.feed.specs.Calls.{tick_left as feed_left, tick_said as feed_said};
 ghost use Rattle.wire.specs.Frames.{left_by};
 
 use crate::concentrator::Concentrator;
@@ -24,14 +23,6 @@ pub struct Written {
     pub len: usize,
 }
 
-// One tick of the feed.
-fn tick_once<F: Feed>(feed: &mut F, reading: u64, scratch: &mut [u8]) -> Result<(), Fault>
-    ensures answer { result ≡ feed_said scratch.old }
-    ensures left { (F.meaning feed.new).waits ≡ feed_left (F.meaning feed.old).waits reading scratch.old }
-{
-    feed.tick(reading, scratch)
-}
-
 impl<F: Feed, P: Policy> Concentrator<F, P> {
     // Takes a reading of the clock: ticks the feed with the latest one, and closes slots. A lent buffer
     // shorter than the longest frame is refused; else it may be used as scratch.
@@ -45,7 +36,7 @@ impl<F: Feed, P: Policy> Concentrator<F, P> {
             return Err(Fault::Buffer);
         }
         let latest = self.engine.tick(&self.policy, reading)?;
-        tick_once(&mut self.feed, latest, scratch)
+        self.feed.tick(latest, scratch)
     }
 
     // Takes one frame for a port: judges it, and keeps it if it is accepted.

@@ -9,6 +9,7 @@ pub struct Ticket {
 
 impl Ticket {
     // The ticket of a number. A ticket is known by its number alone.
+    // No `From`: that a number is made a ticket is to be seen where it is done.
     pub fn of(number: u64) -> Ticket
         ensures { result.number ≡ number }
     {

@@ -11,6 +11,7 @@ use cells::Cell;
 // slot, the number of slots written, whether a ticket is out, how many frames were judged and given
 // each number, and the cells of the 32 slots from the oldest unwritten one on. A ticket that is out
 // needs no number of its own: it is of the oldest unwritten slot.
+// No model: its value would be the state of `specs/States.antt`, which holds functions, and these have no code.
 #[derive(Drop)]
 pub struct Engine {
     pub(crate) terms: Terms,

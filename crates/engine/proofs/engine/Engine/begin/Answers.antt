@@ -1,4 +1,4 @@
-use Rattle.std.proofs.Common.{◌+◌, refl}
+use Rattle.std.proofs.Common.{◌+◌}
 use Rattle.plan.specs.Tables.{ports_of}
 use Rattle.engine.proofs.Rings.{Bare, bare_held, bare_arrived, no_tally}
 use Rattle.engine.proofs.engine.Engine.begin.Goals as goal
