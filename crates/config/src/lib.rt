@@ -2,10 +2,12 @@
 #![tactic(auto)]
 
 mod config;
+mod format;
 mod read;
 mod station;
 mod stations;
 
 pub use config::Config;
-pub use station::{Format, Station};
+pub use format::{Encoding, Format};
+pub use station::Station;
 pub use stations::{MOST_STATIONS, Stations, no_stations};

@@ -6,7 +6,8 @@ ghost use Rattle.fields.specs.Fields.{be16, field};
 ghost use Rattle.std.specs.Option.{ok_or};
 
 use crate::config::Config;
-use crate::station::{Format, Station};
+use crate::format::Format;
+use crate::station::Station;
 use crate::stations::{MOST_STATIONS, Stations, no_stations};
 use common::{Fault, IdCode};
 use fields::{u16_at, u24_at};

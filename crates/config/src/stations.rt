@@ -1,7 +1,8 @@
 ghost use Rattle.std.specs.Prelude.{◌≡◌, []};
 ghost use Rattle.config.specs.Configs.{listed};
 
-use crate::station::{Format, Station};
+use crate::format::Format;
+use crate::station::Station;
 use common::IdCode;
 use fixed::FixedList;
 

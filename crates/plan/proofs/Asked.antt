@@ -18,7 +18,8 @@ use Rattle.config.specs.declared.station.Station.{Station}
 use Rattle.config.specs.Stations.{part_length, few, stations_in}
 use Rattle.config.specs.Configs.{Says, configured, parts_of}
 use Rattle.config.proofs.Exact.{err_not_ok, passed, not_stopped, stations_exact, config_exact}
-use Rattle.layout.specs.Blocks.{number_length, float_phasors, float_analogs, block_length, data_length}
+use Rattle.config.specs.Formats.{float_phasors, float_analogs}
+use Rattle.layout.specs.Blocks.{number_length, block_length, data_length}
 use Rattle.plan.specs.Ports.{PortOf, part_lengths}
 use Rattle.plan.specs.Plans.{asked, bodied, config_body_of, port_from, parts_in}
 use Rattle.plan.specs.Runs.{stations_of, stations_by}
@@ -27,17 +28,13 @@ two_each : (n : ℕ) (float : Bool) → 2 * n ≤ n * number_length float
 two_each n true = omega arith
 two_each n false = omega arith
 
-four_each : (n : ℕ) (float : Bool) → 4 * n ≤ n * cond float 8 4
-four_each n true = omega arith
-four_each n false = omega arith
-
 -- a part is long only where its station's data are long, or by its digital words
 part-bound : (s : Station) → few s ≡ true → part_length s ≤ 1070 + 10 * block_length s
 part-bound s h =
     let f = s.format.0 in
     let words = (and_parts (leb s.analogs 16) (leb s.digitals 4) (and_parts (leb s.phasors 32) (leb s.analogs 16 && leb s.digitals 4) h).1).1 in
     let few_words = leb-true s.digitals 4 words in
-    let p = four_each s.phasors (float_phasors f) in
+    let p = two_each s.phasors (float_phasors f) in
     let a = two_each s.analogs (float_analogs f) in
     omega (arith, few_words, p, a)
 

@@ -1,8 +1,6 @@
 use crate::build::{Build, Outcome};
-use config::Station;
-use layout::{
-    block_len, data_len, has_float_analogs, has_float_freqs, has_float_phasors, has_polar_phasors,
-};
+use config::{Encoding, Station};
+use layout::{block_len, data_len};
 use plan::{Plan, Record};
 
 // One line of the capture, and the port that it fills.
@@ -65,10 +63,10 @@ fn show_station(rt: &HostRuntime, place: usize, station: &Station) -> anyhow::Re
     let phasors = station.phasors;
     let analogs = station.analogs;
     let digitals = station.digitals;
-    let phasor = encoding(has_float_phasors(station.format));
-    let polar = shape(has_polar_phasors(station.format));
-    let analog = encoding(has_float_analogs(station.format));
-    let freq = encoding(has_float_freqs(station.format));
+    let phasor = encoding(station.format.has(Encoding::FloatPhasors));
+    let polar = shape(station.format.has(Encoding::PolarPhasors));
+    let analog = encoding(station.format.has(Encoding::FloatAnalogs));
+    let freq = encoding(station.format.has(Encoding::FloatFreqs));
     let bytes = block_len(station);
     println!(rt;
         "  {place:>7}  {id:>6}  {phasors:>3} {phasor:<7} {polar:<11}  {analogs:>3} {analog:<7}  {freq:<7}  {digitals:>8}  {bytes:>5}"
