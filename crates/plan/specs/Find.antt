@@ -1,5 +1,5 @@
 -- Where a station with a code stands first, by port and then by place.
-use Rattle.std.specs.Prelude.{ℕ, ◌+◌, cond, List, [], ◌∷◌, Some, None, Option, ◌==◌}
+use Rattle.std.specs.Prelude.{ℕ, ◌+◌, List, [], ◌∷◌, Some, None, Option, ◌==◌}
 use Rattle.std.specs.List.{position_from}
 use Rattle.config.specs.declared.station.Station.{Station}
 use Rattle.plan.specs.declared.find.Place.{Place}
