@@ -1,45 +1,55 @@
 -- Feeds whose lines are led to ports: a frame keeps its bytes, and has its port's number in place of its line's.
-use Rattle.std.specs.Prelude.{◌≡◌, ℕ, min, List, [], ◌∷◌, map, slice_index_or, refl}
+use Rattle.std.specs.Prelude.{◌≡◌, ℕ, min, List, [], ◌∷◌, Option, Some, None, map, slice_get, refl}
 use Rattle.std.proofs.Common.{◌∙◌, ap, arith}
+use Rattle.listing.specs.declared.build.Outcome.{Outcome}
+use Rattle.listing.specs.declared.build.Outcome.TheVariants as outcome
 use Rattle.feed.specs.Feeds.{Waiting, Behaviour, rest, Within, within_none, within_more, within_both, AllCarried, Lawful, Meaning}
 
--- the port that a line is led to, from a list of them
-abbrev pub port_at : List ℕ → ℕ → ℕ
-port_at ports line = min (slice_index_or ports line 15) 15
+-- the port that a line fills, and 15 if it fills none
+abbrev pub filled_by : Option Outcome → ℕ
+filled_by (Some (outcome.Filled port)) = port.0
+filled_by (Some outcome.Unused) = 15
+filled_by (Some outcome.NoConfiguration) = 15
+filled_by (Some (outcome.Refused fault)) = 15
+filled_by None = 15
 
-abbrev pub led : List ℕ → Waiting → Waiting
-led ports w = record { port = port_at ports w.port; bytes = w.bytes }
+-- the port that a line is led to, from what became of each line
+abbrev pub port_at : List Outcome → ℕ → ℕ
+port_at lines line = min (filled_by (slice_get lines line)) 15
+
+abbrev pub led : List Outcome → Waiting → Waiting
+led lines w = record { port = port_at lines w.port; bytes = w.bytes }
 
 -- each waiting frame is led to its port, and nothing else changes
-abbrev pub all_led : List ℕ → Behaviour → Behaviour
-all_led ports m = λ ops. map (led ports) (m ops)
+abbrev pub all_led : List Outcome → Behaviour → Behaviour
+all_led lines m = λ ops. map (led lines) (m ops)
 
-within-led : (ports : List ℕ) {xs ys : List Waiting} → Within xs ys → Within (map (led ports) xs) (map (led ports) ys)
-within-led ports within_none = within_none
-within-led ports (within_more p) = within_more (within-led ports p)
-within-led ports (within_both p) = within_both (within-led ports p)
+within-led : (lines : List Outcome) {xs ys : List Waiting} → Within xs ys → Within (map (led lines) xs) (map (led lines) ys)
+within-led lines within_none = within_none
+within-led lines (within_more p) = within_more (within-led lines p)
+within-led lines (within_both p) = within_both (within-led lines p)
 
-rest-led : (ports : List ℕ) (xs : List Waiting) → map (led ports) (rest xs) ≡ rest (map (led ports) xs)
-rest-led ports [] = refl
-rest-led ports (x ∷ xs) = refl
+rest-led : (lines : List Outcome) (xs : List Waiting) → map (led lines) (rest xs) ≡ rest (map (led lines) xs)
+rest-led lines [] = refl
+rest-led lines (x ∷ xs) = refl
 
-none-led : (ports : List ℕ) (xs : List Waiting) → map (led ports) xs ≡ [] → xs ≡ []
-none-led ports [] e = refl
-none-led ports (x ∷ xs) e = cc
+none-led : (lines : List Outcome) (xs : List Waiting) → map (led lines) xs ≡ [] → xs ≡ []
+none-led lines [] e = refl
+none-led lines (x ∷ xs) e = cc
 
-carried-led : (ports : List ℕ) (xs : List Waiting) → AllCarried xs → AllCarried (map (led ports) xs)
-carried-led ports [] c = tt
-carried-led ports (x ∷ xs) c =
-    (record { line = omega arith; some = c.0.some; few = c.0.few }, carried-led ports xs c.1)
+carried-led : (lines : List Outcome) (xs : List Waiting) → AllCarried xs → AllCarried (map (led lines) xs)
+carried-led lines [] c = tt
+carried-led lines (x ∷ xs) c =
+    (record { line = omega arith; some = c.0.some; few = c.0.few }, carried-led lines xs c.1)
 
-pub led-lawful : (ports : List ℕ) (m : Behaviour) → Lawful m → Lawful (all_led ports m)
-led-lawful ports m l =
+pub led-lawful : (lines : List Outcome) (m : Behaviour) → Lawful m → Lawful (all_led lines m)
+led-lawful lines m l =
     record {
-      ticked = λ ops r. within-led ports (l.ticked ops r);
-      nexted = λ ops. ap (map (led ports)) (l.nexted ops) ∙ rest-led ports (m ops);
-      idle = λ ops more e. ap (map (led ports)) (l.idle ops more (none-led ports (m ops) e));
-      carried = λ ops. carried-led ports (m ops) (l.carried ops);
+      ticked = λ ops r. within-led lines (l.ticked ops r);
+      nexted = λ ops. ap (map (led lines)) (l.nexted ops) ∙ rest-led lines (m ops);
+      idle = λ ops more e. ap (map (led lines)) (l.idle ops more (none-led lines (m ops) e));
+      carried = λ ops. carried-led lines (m ops) (l.carried ops);
     }
 
-abbrev pub wired : List ℕ → Meaning → Meaning
-wired ports m = record { waits = all_led ports m.waits; lawful = led-lawful ports m.waits m.lawful }
+abbrev pub wired : List Outcome → Meaning → Meaning
+wired lines m = record { waits = all_led lines m.waits; lawful = led-lawful lines m.waits m.lawful }

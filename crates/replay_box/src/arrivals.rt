@@ -1,5 +1,5 @@
-use crate::refusal::refuse;
-use capture::Capture;
+use anyhow::Context;
+use capture::{Capture, Record};
 use common::Port;
 use feed::{Feed, LONGEST_FRAME};
 use recorded::Recorded;
@@ -7,9 +7,20 @@ use recorded::Recorded;
 // A frame that a feed gave, the reading that it came at, and the line that it came in by.
 #[derive(Drop)]
 pub struct Arrival {
-    pub reading: u64,
-    pub port: Port,
-    pub frame: Vec<u8>,
+    reading: u64,
+    port: Port,
+    frame: Vec<u8>,
+}
+
+impl Arrival {
+    // The arrival as a capture has it.
+    pub fn record(&self) -> Record<'_> {
+        Record {
+            reading: self.reading,
+            port: self.port,
+            frame: self.frame.as_slice(),
+        }
+    }
 }
 
 // Ticks the feed with a reading, and takes every frame that then waits.
@@ -20,9 +31,7 @@ fn take_due(
     arrivals: &mut Vec<Arrival>,
 ) -> anyhow::Result<()> {
     let mut buffer = [0; LONGEST_FRAME];
-    if let Err(fault) = feed.tick(reading, &mut buffer) {
-        return refuse(rt, fault);
-    }
+    feed.tick(reading, &mut buffer).context("refused")?;
     while let Ok(taken) = feed.next(&mut buffer) {
         let frame = buffer[..taken.len].to_vec(rt.alloc())?;
         arrivals.push(Arrival {
@@ -34,19 +43,14 @@ fn take_due(
     Ok(())
 }
 
-// Plays a capture through its feed, by each reading in it.
+// Plays a capture through its feed, by each reading in it. Nothing is due twice.
 pub fn play(
     rt: &HostRuntime,
     capture: Capture,
     mut feed: Recorded,
 ) -> anyhow::Result<Vec<Arrival>> {
     let mut arrivals = Vec::new(rt.alloc());
-    let mut last = None;
     for record in capture {
-        if last == Some(record.reading) {
-            continue;
-        }
-        last = Some(record.reading);
         take_due(rt, &mut feed, record.reading, &mut arrivals)?;
     }
     Ok(arrivals)

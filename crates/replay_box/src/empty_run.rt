@@ -12,17 +12,11 @@ pub struct EmptyRun {
 impl EmptyRun {
     // The run with one slot more, or one that it begins.
     pub fn with(run: Option<EmptyRun>, line: SlotLine) -> EmptyRun {
-        match run {
-            Some(run) => EmptyRun {
-                first: run.first,
-                last: line.slot,
-                slots: run.slots.saturating_add(1),
-            },
-            None => EmptyRun {
-                first: line,
-                last: line.slot,
-                slots: 1,
-            },
+        let (first, slots) = run.map_or((line, 0), |run| (run.first, run.slots));
+        EmptyRun {
+            first,
+            last: line.slot,
+            slots: slots.saturating_add(1),
         }
     }
 }

@@ -1,19 +1,19 @@
-use crate::arrivals::Arrival;
-use crate::build::Build;
-use crate::refusal::refuse;
 use crate::report::Report;
 use crate::slot::slot_of;
-use crate::wiring::{Wired, Wiring};
-use anyhow::anyhow;
+use crate::wired::Wired;
+use anyhow::{Context, bail};
+use capture::Record;
 use choice::Simple;
 use common::Port;
 use concentrator::{Concentrator, Ticket};
-use feed::{Feed, LONGEST_FRAME};
+use feed::LONGEST_FRAME;
+use listing::Build;
+use plan::Plan;
 use policy::Policy;
 use recorded::Recorded;
 
 // How far a tick may leap ahead, in microseconds.
-const LONGEST_STEP: u64 = 60_000_000;
+const LONGEST_STEP: usize = 60_000_000;
 
 // How far the stamp of an accepted frame may be ahead of the clock, in microseconds.
 const EARLIEST: u64 = 100_000;
@@ -28,8 +28,8 @@ const MOST_CLOSED: u32 = 8_000;
 // A host that is prompt: it writes every closed slot after each tick and before each pull.
 #[derive(Drop)]
 pub struct Host<'a> {
-    concentrator: Concentrator<Wired<Recorded<'a>>, Simple>,
-    build: &'a Build,
+    concentrator: Concentrator<Wired<'a, Recorded<'a>>, Simple>,
+    plan: &'a Plan,
     // the latest reading, and how long after its stamp a slot may close
     clock: u64,
     wait: u64,
@@ -44,33 +44,39 @@ fn front(buffer: &[u8], len: usize) -> &[u8] {
 
 impl<'a> Host<'a> {
     // A host with a concentrator of the plan, over the capture, from its first reading on.
-    pub fn open(build: &'a Build, capture: &'a [u8], policy: Simple, report: Report) -> Host<'a> {
+    pub fn open(
+        build: &'a Build,
+        capture: &'a [u8],
+        first: u64,
+        policy: Simple,
+        report: Report,
+    ) -> Host<'a> {
         let feed = Wired {
             feed: Recorded::over(capture),
-            wiring: Wiring::of(build),
+            lines: build.lines.as_slice(),
         };
-        let wait = policy.longest_wait();
         Host {
-            concentrator: Concentrator::open(&build.plan, feed, policy, build.first),
-            build,
-            clock: build.first,
-            wait,
+            concentrator: Concentrator::open(&build.plan, feed, policy, first),
+            plan: &build.plan,
+            clock: first,
+            wait: policy.longest_wait(),
             report,
         }
     }
 
     // Writes the slot of a ticket.
-    fn write(&mut self, rt: &HostRuntime, ticket: Ticket) -> anyhow::Result<()> {
+    fn write(&mut self, rt: &impl Print, ticket: Ticket) -> anyhow::Result<()> {
         let slot = ticket.number();
         let mut out = [0; LONGEST_FRAME];
-        match self.concentrator.write(ticket, &mut out) {
-            Ok(written) => self.report.written(rt, slot, front(&out, written.len)),
-            Err(fault) => refuse(rt, fault),
-        }
+        let written = self
+            .concentrator
+            .write(ticket, &mut out)
+            .context("refused")?;
+        self.report.written(rt, slot, front(&out, written.len))
     }
 
     // Takes and writes all slots that are closed.
-    fn write_closed(&mut self, rt: &HostRuntime) -> anyhow::Result<()> {
+    fn write_closed(&mut self, rt: &impl Print) -> anyhow::Result<()> {
         for _ in 0..MOST_CLOSED {
             let Ok(ticket) = self.concentrator.take() else {
                 break;
@@ -81,22 +87,20 @@ impl<'a> Host<'a> {
     }
 
     // Ticks, and writes what that has closed.
-    fn tick(&mut self, rt: &HostRuntime, reading: u64) -> anyhow::Result<()> {
+    fn tick(&mut self, rt: &impl Print, reading: u64) -> anyhow::Result<()> {
         let mut scratch = [0; LONGEST_FRAME];
-        match self.concentrator.tick(reading, &mut scratch) {
-            Ok(()) => self.write_closed(rt),
-            Err(fault) => refuse(rt, fault),
-        }
+        self.concentrator
+            .tick(reading, &mut scratch)
+            .context("refused")?;
+        self.write_closed(rt)
     }
 
     // Ticks with a reading, and before it as often as no tick has to leap too far.
-    fn tick_up_to(&mut self, rt: &HostRuntime, reading: u64) -> anyhow::Result<()> {
-        let mut clock = self.clock;
-        if reading.saturating_sub(clock) > LONGEST_GAP {
-            return Err(anyhow!("more than a day lies between two readings of the capture"));
+    fn tick_up_to(&mut self, rt: &impl Print, reading: u64) -> anyhow::Result<()> {
+        if reading.saturating_sub(self.clock) > LONGEST_GAP {
+            bail!("more than a day lies between two readings of the capture");
         }
-        while clock.saturating_add(LONGEST_STEP) < reading {
-            clock += LONGEST_STEP;
+        for clock in (self.clock..reading).step_by(LONGEST_STEP).skip(1) {
             self.tick(rt, clock)?;
         }
         self.clock = reading;
@@ -104,52 +108,44 @@ impl<'a> Host<'a> {
     }
 
     // Pulls the frame of a record, and tells what became of it.
-    fn pull(&mut self, rt: &HostRuntime, number: u32, line: Port) -> anyhow::Result<()> {
+    fn pull(&mut self, rt: &impl Print, number: usize, line: Port) -> anyhow::Result<()> {
         let mut buffer = [0; LONGEST_FRAME];
-        let pulled = match self.concentrator.pull(&mut buffer) {
-            Ok(pulled) => pulled,
-            Err(fault) => return refuse(rt, fault),
-        };
+        let pulled = self.concentrator.pull(&mut buffer).context("refused")?;
         if let Err(fault) = pulled.verdict {
             return self.report.refused(rt, number, line, fault);
         }
-        match slot_of(&self.build.plan, pulled.port, front(&buffer, pulled.len)) {
-            Ok(slot) => self.report.accepted(slot, pulled.port),
-            Err(fault) => refuse(rt, fault),
-        }
+        let slot = slot_of(self.plan, pulled.port, front(&buffer, pulled.len)).context("refused")?;
+        self.report.accepted(slot, pulled.port)
     }
 
     // Plays the capture: ticks with each reading in it, and pulls each frame that then waits. These are
     // the capture's frames, in their order.
-    fn play_records(&mut self, rt: &HostRuntime, arrivals: &[Arrival]) -> anyhow::Result<()> {
+    fn play_records(&mut self, rt: &impl Print, records: &[Record]) -> anyhow::Result<()> {
         let mut last = None;
-        let mut number: u32 = 0;
-        for arrival in arrivals {
-            number = number.saturating_add(1);
-            if last != Some(arrival.reading) {
-                last = Some(arrival.reading);
-                self.tick_up_to(rt, arrival.reading)?;
+        for (number, record) in (1usize..).zip(records) {
+            if last.replace(record.reading) != Some(record.reading) {
+                self.tick_up_to(rt, record.reading)?;
             }
             self.write_closed(rt)?;
-            self.pull(rt, number, arrival.port)?;
+            self.pull(rt, number, record.port)?;
         }
         self.write_closed(rt)
     }
 
     // Plays the capture, and then goes on until every slot with a frame is closed and written.
-    fn play_out(&mut self, rt: &HostRuntime, arrivals: &[Arrival]) -> anyhow::Result<()> {
-        self.play_records(rt, arrivals)?;
+    fn play_out(&mut self, rt: &impl Print, records: &[Record]) -> anyhow::Result<()> {
+        self.play_records(rt, records)?;
         let rest = self.wait.saturating_add(EARLIEST);
         self.tick_up_to(rt, self.clock.saturating_add(rest))
     }
 
     // Plays the capture to its end, and reports it.
-    pub fn play(&mut self, rt: &HostRuntime, arrivals: &[Arrival]) -> anyhow::Result<()> {
+    pub fn play(&mut self, rt: &impl Print, records: &[Record]) -> anyhow::Result<()> {
         if let Err(fault) = self.concentrator.check() {
             return self.report.shut(rt, fault);
         }
         self.report.begin(rt, self.wait)?;
-        let outcome = self.play_out(rt, arrivals);
+        let outcome = self.play_out(rt, records);
         self.report.end(rt)?;
         outcome
     }

@@ -13,9 +13,8 @@ impl Present {
     }
 
     pub fn add(&mut self, port: Port) {
-        let number = usize::from(port.0);
-        if number < self.ports.len() {
-            self.ports[number] = true;
+        if let Some(present) = self.ports.get_mut(usize::from(port.0)) {
+            *present = true;
         }
     }
 
@@ -26,18 +25,14 @@ impl Present {
 
 impl fmt::Display for Present {
     fn fmt<W: fmt::Write>(&self, f: &mut fmt::Formatter<W>) -> fmt::Result {
-        if self.is_none() {
+        let ports = self.ports.iter().enumerate();
+        let mut present = ports.filter(|(_, present)| **present).map(|(port, _)| port);
+        let Some(first) = present.next() else {
             return f.write_str("none");
-        }
-        let mut first = true;
-        for (port, present) in self.ports.iter().enumerate() {
-            if *present {
-                if !first {
-                    f.write_str(" ")?;
-                }
-                first = false;
-                write!(f, "{port}")?;
-            }
+        };
+        write!(f, "{first}")?;
+        for port in present {
+            write!(f, " {port}")?;
         }
         Ok(())
     }

@@ -2,8 +2,8 @@ use crate::empty_run::EmptyRun;
 use crate::hex::HexLine;
 use crate::options::Output;
 use crate::present::Present;
-use crate::refusal::refuse;
 use crate::slot_line::SlotLine;
+use anyhow::Context;
 use common::{Fault, Port};
 use std::collections::BTreeMap;
 
@@ -27,19 +27,19 @@ impl Report {
     }
 
     // Tells why the concentrator is shut.
-    pub fn shut(&self, rt: &HostRuntime, fault: Fault) -> anyhow::Result<()> {
+    pub fn shut(&self, rt: &impl Print, fault: Fault) -> anyhow::Result<()> {
         match self.output {
             Output::Table => {
                 println!(rt)?;
                 println!(rt; "no slots: {fault}")?;
                 Ok(())
             }
-            Output::Hex => refuse(rt, fault),
+            Output::Hex => Err(fault).context("refused"),
         }
     }
 
     // The head of the table of slots.
-    pub fn begin(&self, rt: &HostRuntime, wait: u64) -> anyhow::Result<()> {
+    pub fn begin(&self, rt: &impl Print, wait: u64) -> anyhow::Result<()> {
         if let Output::Table = self.output {
             println!(rt)?;
             println!(rt; "slots: closed at most {wait} microseconds after their stamps")?;
@@ -52,11 +52,10 @@ impl Report {
     }
 
     // Prints the slots without a port that were put off.
-    fn print_empty(&mut self, rt: &HostRuntime) -> anyhow::Result<()> {
-        if let Some(run) = self.empty {
+    fn print_empty(&mut self, rt: &impl Print) -> anyhow::Result<()> {
+        if let Some(run) = self.empty.take() {
             println!(rt; "{run}")?;
         }
-        self.empty = None;
         Ok(())
     }
 
@@ -72,26 +71,22 @@ impl Report {
     // Tells of a record whose frame was refused.
     pub fn refused(
         &mut self,
-        rt: &HostRuntime,
-        number: u32,
+        rt: &impl Print,
+        number: usize,
         line: Port,
         fault: Fault,
     ) -> anyhow::Result<()> {
         if let Output::Table = self.output {
             self.print_empty(rt)?;
-            let line = line.0;
             println!(rt; "record {number} of line {line} refused: {fault}")?;
         }
         Ok(())
     }
 
     // A line for a slot with a port; a slot without one is put off.
-    fn print_slot(&mut self, rt: &HostRuntime, slot: u64, frame: &[u8]) -> anyhow::Result<()> {
+    fn print_slot(&mut self, rt: &impl Print, slot: u64, frame: &[u8]) -> anyhow::Result<()> {
         let present = self.accepted.remove(&slot).unwrap_or(Present::none());
-        let line = match SlotLine::read(slot, present, frame) {
-            Ok(line) => line,
-            Err(fault) => return refuse(rt, fault),
-        };
+        let line = SlotLine::read(slot, present, frame).context("refused")?;
         if present.is_none() {
             self.empty = Some(EmptyRun::with(self.empty, line));
             return Ok(());
@@ -102,7 +97,7 @@ impl Report {
     }
 
     // Shows the frame that was written for a slot.
-    pub fn written(&mut self, rt: &HostRuntime, slot: u64, frame: &[u8]) -> anyhow::Result<()> {
+    pub fn written(&mut self, rt: &impl Print, slot: u64, frame: &[u8]) -> anyhow::Result<()> {
         match self.output {
             Output::Table => self.print_slot(rt, slot, frame),
             Output::Hex => {
@@ -113,7 +108,7 @@ impl Report {
         }
     }
 
-    pub fn end(&mut self, rt: &HostRuntime) -> anyhow::Result<()> {
+    pub fn end(&mut self, rt: &impl Print) -> anyhow::Result<()> {
         self.print_empty(rt)
     }
 }

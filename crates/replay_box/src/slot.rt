@@ -1,4 +1,5 @@
 use common::{Fault, Port};
+use listing::slot_at;
 use plan::Plan;
 use slots::Rate;
 use wire::Header;
@@ -6,12 +7,7 @@ use wire::Header;
 // The slot of a data frame that was accepted at a port of the plan.
 pub fn slot_of(plan: &Plan, port: Port, frame: &[u8]) -> Result<u64, Fault> {
     let header = Header::read(frame)?;
-    let Some(record) = plan.ports().get(usize::from(port.0)) else {
-        return Err(Fault::Port);
-    };
-    let Some(rate) = Rate::new(plan.rate()) else {
-        return Err(Fault::EmptyPlan);
-    };
-    rate.slot_of(record.time_base, header.time.soc, header.time.count)
-        .ok_or(Fault::NoSlot)
+    let record = plan.ports().get(usize::from(port.0)).ok_or(Fault::Port)?;
+    let rate = Rate::new(plan.rate()).ok_or(Fault::EmptyPlan)?;
+    slot_at(record, rate, header.time)
 }

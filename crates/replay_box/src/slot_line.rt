@@ -1,8 +1,7 @@
-use crate::line::judge;
 use crate::present::Present;
-use crate::utc::UtcMicros;
 use common::Fault;
 use fields::u16_at;
+use listing::{Utc, judge};
 use std::fmt;
 use wire::TimeTag;
 
@@ -35,17 +34,15 @@ impl SlotLine {
 impl fmt::Display for SlotLine {
     fn fmt<W: fmt::Write>(&self, f: &mut fmt::Formatter<W>) -> fmt::Result {
         let slot = self.slot;
-        let stamp = UtcMicros {
-            second: self.time.soc,
-            micros: self.time.count,
-        };
+        let time = Utc(self.time.soc);
+        let micros = self.time.count;
         let quality = self.time.quality;
         let len = self.len;
         let check = self.check;
         let present = self.present;
         write!(
             f,
-            "{slot:>12}  {stamp}      {quality:02x}h  {len:>5}       {check:04x}h  {present}"
+            "{slot:>12}  {time}.{micros:06} UTC      {quality:02x}h  {len:>5}       {check:04x}h  {present}"
         )
     }
 }

@@ -2,49 +2,47 @@ use crate::build::{Build, Outcome};
 use config::{Encoding, Station};
 use layout::{block_len, data_len};
 use plan::{Plan, Record};
+use std::io;
 
 // One line of the capture, and the port that it fills.
-fn show_line(rt: &HostRuntime, build: &Build, line: usize, outcome: Outcome) -> anyhow::Result<()> {
+fn show_line(rt: &impl Print, plan: &Plan, line: usize, outcome: Outcome) -> io::Result<()> {
     match outcome {
-        Outcome::Unused => {}
+        Outcome::Unused => Ok(()),
         Outcome::NoConfiguration => println!(rt;
             "{line:>5}  {:>4}  no configuration: left out",
             "-"
-        )?,
+        ),
         Outcome::Refused(fault) => println!(rt;
             "{line:>5}  {:>4}  refused: {fault}: left out",
             "-"
-        )?,
+        ),
         Outcome::Filled(port) => {
-            let number = port.0;
-            print!(rt; "{line:>5}  {number:>4}")?;
-            match build.plan.ports().get(usize::from(number)) {
-                Some(record) => show_port(rt, record)?,
-                None => println!(rt)?,
+            print!(rt; "{line:>5}  {port:>4}")?;
+            match plan.ports().get(usize::from(port.0)) {
+                Some(record) => show_port(rt, record),
+                None => println!(rt),
             }
         }
     }
-    Ok(())
 }
 
 // What a port's configuration says.
-fn show_port(rt: &HostRuntime, port: &Record) -> anyhow::Result<()> {
-    let id = port.id.0;
+fn show_port(rt: &impl Print, port: &Record) -> io::Result<()> {
+    let id = port.id;
     let base = port.time_base;
     let stations = port.stations.len();
     let bytes = data_len(&port.stations);
-    println!(rt; "  {id:>6}  {base:>9}  {stations:>8}  {bytes:>10}")?;
-    Ok(())
+    println!(rt; "  {id:>6}  {base:>9}  {stations:>8}  {bytes:>10}")
 }
 
 // Which line of the capture fills which port of the plan.
-pub fn show_ports(rt: &HostRuntime, build: &Build) -> anyhow::Result<()> {
-    let rate = build.rate;
+pub(crate) fn show_ports(rt: &impl Print, build: &Build) -> io::Result<()> {
+    let rate = build.plan.rate();
     println!(rt)?;
     println!(rt; "plan: {rate} frames a second, by the first configuration of each line")?;
     println!(rt; " line  port      ID  time base  stations  data bytes")?;
     for (line, outcome) in build.lines.iter().enumerate() {
-        show_line(rt, build, line, *outcome)?;
+        show_line(rt, &build.plan, line, *outcome)?;
     }
     Ok(())
 }
@@ -58,8 +56,8 @@ fn shape(polar: bool) -> &'static str {
 }
 
 // A station's channels, and how they are encoded.
-fn show_station(rt: &HostRuntime, place: usize, station: &Station) -> anyhow::Result<()> {
-    let id = station.id.0;
+fn show_station(rt: &impl Print, place: usize, station: &Station) -> io::Result<()> {
+    let id = station.id;
     let phasors = station.phasors;
     let analogs = station.analogs;
     let digitals = station.digitals;
@@ -70,12 +68,11 @@ fn show_station(rt: &HostRuntime, place: usize, station: &Station) -> anyhow::Re
     let bytes = block_len(station);
     println!(rt;
         "  {place:>7}  {id:>6}  {phasors:>3} {phasor:<7} {polar:<11}  {analogs:>3} {analog:<7}  {freq:<7}  {digitals:>8}  {bytes:>5}"
-    )?;
-    Ok(())
+    )
 }
 
 // All stations, port by port.
-pub fn show_stations(rt: &HostRuntime, plan: &Plan) -> anyhow::Result<()> {
+pub(crate) fn show_stations(rt: &impl Print, plan: &Plan) -> io::Result<()> {
     println!(rt)?;
     println!(rt;
         " port  station      ID  phasors                  analogs      FREQ     digitals  bytes"

@@ -1,11 +1,11 @@
-use crate::line::{Finding, Line};
+use common::Fault;
 use std::fmt;
-use wire::FrameType;
+use wire::{FrameType, Header};
 
 // How many records there were, and of what.
 #[derive(Clone, Copy)]
-pub struct Totals {
-    pub records: u32,
+pub(crate) struct Totals {
+    records: u32,
     data_frames: u32,
     configurations: u32,
     others: u32,
@@ -13,8 +13,12 @@ pub struct Totals {
     refused: [u32; 31],
 }
 
+fn add_one(count: &mut u32) {
+    *count = count.saturating_add(1);
+}
+
 impl Totals {
-    pub fn new() -> Totals {
+    pub(crate) fn new() -> Totals {
         Totals {
             records: 0,
             data_frames: 0,
@@ -24,18 +28,18 @@ impl Totals {
         }
     }
 
-    pub fn count(&mut self, line: &Line) {
-        self.records = self.records.saturating_add(1);
-        match line.finding {
-            Finding::Told(header) => match header.kind {
-                FrameType::Data => self.data_frames = self.data_frames.saturating_add(1),
-                FrameType::Config2 => self.configurations = self.configurations.saturating_add(1),
-                _ => self.others = self.others.saturating_add(1),
+    // Counts a record by what its frame turned out to be.
+    pub(crate) fn count(&mut self, finding: Result<Header, Fault>) {
+        add_one(&mut self.records);
+        match finding {
+            Ok(header) => match header.kind {
+                FrameType::Data => add_one(&mut self.data_frames),
+                FrameType::Config2 => add_one(&mut self.configurations),
+                _ => add_one(&mut self.others),
             },
-            Finding::Refused(fault) => {
-                let number = usize::from(fault.number());
-                if number < self.refused.len() {
-                    self.refused[number] = self.refused[number].saturating_add(1);
+            Err(fault) => {
+                if let Some(times) = self.refused.get_mut(usize::from(fault.number())) {
+                    add_one(times);
                 }
             }
         }

@@ -1,0 +1,5 @@
+pub mod Judged
+pub mod Slot
+pub mod Lines
+pub mod Builds
+pub mod Waits

@@ -1,0 +1,98 @@
+ghost use Rattle.listing.specs.Builds.{filled_port};
+ghost use Rattle.listing.specs.Lines.{last_reading as last_reading_of};
+ghost use Rattle.plan.specs.Tables.{port_of as port_in};
+ghost use Rattle.plan.specs.Views.{plan_of};
+ghost use Rattle.std.specs.Option.{option_map};
+ghost use Rattle.std.specs.Prelude.{◌≡◌, slice_get};
+
+use crate::find::{LINES, first_config, first_rate, is_used};
+use capture::Record;
+use common::{Fault, IdCode, Port};
+use plan::Plan;
+use std::alloc::{AllocError, Global};
+
+// The code that the combined stream is sent under.
+const COMBINED: IdCode = IdCode(1);
+
+// Room for the longest configuration that a plan can make.
+const ROOM: usize = 40_024;
+
+// What became of a line of the capture.
+#[derive(Clone, Copy)]
+pub enum Outcome {
+    // No record came by it.
+    Unused,
+    // Records came, but no configuration.
+    NoConfiguration,
+    // Its first configuration was refused, and the line is left out.
+    Refused(Fault),
+    // Its first configuration filled this port of the plan.
+    Filled(Port),
+}
+
+// What the configurations of a capture make.
+#[derive(Drop)]
+pub struct Build {
+    pub plan: Plan,
+    // what became of each line
+    pub lines: Vec<Outcome>,
+    // the combined configuration, published at the last reading
+    pub combined: Result<Vec<u8>, Fault>,
+}
+
+impl Build {
+    // The record of the plan's port that a line fills, if it fills one.
+    pub fn port_of(&self, line: Port) -> Option<&plan::Record>
+        ensures { option_map (λ r. port_in r.now) result ≡ filled_port (slice_get self.now.lines.items line.0) (plan_of self.now.plan) }
+    {
+        match self.lines.get(usize::from(line.0)) {
+            Some(Outcome::Filled(port)) => self.plan.ports().get(usize::from(port.0)),
+            _ => None,
+        }
+    }
+}
+
+// The last reading, or 0 where there is no record.
+fn last_reading(records: &[Record]) -> u64
+    ensures { result ≡ last_reading_of records.now }
+{
+    records.last().map_or(0, |record| record.reading)
+}
+
+// Fills the next port from the line's first configuration.
+fn add_line(plan: &mut Plan, records: &[Record], line: Port, buffer: &mut [u8]) -> Outcome {
+    match first_config(records, line) {
+        Some(record) => match plan.add(record.frame, buffer) {
+            Ok(port) => Outcome::Filled(port),
+            Err(fault) => Outcome::Refused(fault),
+        },
+        None if is_used(records, line) => Outcome::NoConfiguration,
+        None => Outcome::Unused,
+    }
+}
+
+// The combined configuration, published into the buffer that the ports were added with.
+fn publish(plan: &Plan, reading: u64, mut buffer: Vec<u8>) -> Result<Vec<u8>, Fault> {
+    let size = plan.publish(reading, &mut buffer)?;
+    buffer.truncate(size);
+    Ok(buffer)
+}
+
+impl Build {
+    // A plan of the first configuration of each line, in the order of the lines, at the rate of
+    // the lowest line that has one.
+    pub fn of(alloc: Global, records: &[Record]) -> Result<Build, AllocError> {
+        let mut buffer = vec![in alloc; 0; ROOM]?;
+        let mut plan = Plan::begin(COMBINED, first_rate(records).unwrap_or(0));
+        let mut lines = Vec::new(alloc);
+        for line in 0..LINES {
+            lines.push(add_line(&mut plan, records, Port(line), &mut buffer))?;
+        }
+        let combined = publish(&plan, last_reading(records), buffer);
+        Ok(Build {
+            plan,
+            lines,
+            combined,
+        })
+    }
+}

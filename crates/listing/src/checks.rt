@@ -1,0 +1,13 @@
+ghost use Rattle.listing.specs.Judged.{judged};
+ghost use Rattle.std.specs.Prelude.{◌≡◌};
+
+use common::Fault;
+use wire::{Frame, Header};
+
+// The header of a frame that passes all checks, or the first check that fails.
+pub fn judge(bytes: &[u8]) -> Result<Header, Fault>
+    ensures { result ≡ judged bytes.now }
+{
+    let _frame = Frame::read(bytes)?;
+    Header::read(bytes)
+}
