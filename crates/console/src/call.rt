@@ -41,29 +41,6 @@ pub enum Call {
     OnBox(BoxCall),
 }
 
-fn read_open(heap: Global, words: &mut Words) -> Result<Call, Reason> {
-    let policy = read_policy(words)?;
-    let source = Source::read(heap, words)?;
-    let reading = words.number()?;
-    Ok(Call::Open {
-        policy,
-        source,
-        reading,
-    })
-}
-
-fn read_add(heap: Global, words: &mut Words) -> Result<Call, Reason> {
-    let frame = words.bytes(heap)?;
-    let room = words.room()?;
-    Ok(Call::Add { frame, room })
-}
-
-fn read_admit(heap: Global, words: &mut Words) -> Result<BoxCall, Reason> {
-    let port = words.port()?;
-    let frame = words.bytes(heap)?;
-    Ok(BoxCall::Admit { port, frame })
-}
-
 // The call on a box of that name.
 fn read_box_call(heap: Global, name: &str, words: &mut Words) -> Result<BoxCall, Reason> {
     match name {
@@ -71,7 +48,10 @@ fn read_box_call(heap: Global, name: &str, words: &mut Words) -> Result<BoxCall,
             reading: words.number()?,
             room: words.room()?,
         }),
-        "admit" => read_admit(heap, words),
+        "admit" => Ok(BoxCall::Admit {
+            port: words.port()?,
+            frame: words.bytes(heap)?,
+        }),
         "pull" => Ok(BoxCall::Pull {
             room: words.room()?,
         }),
@@ -91,13 +71,20 @@ fn read_call(heap: Global, words: &mut Words) -> Result<Call, Reason> {
             id: words.id()?,
             rate: words.rate()?,
         }),
-        "add" => read_add(heap, words),
+        "add" => Ok(Call::Add {
+            frame: words.bytes(heap)?,
+            room: words.room()?,
+        }),
         "publish" => Ok(Call::Publish {
             reading: words.number()?,
             room: words.room()?,
         }),
         "find" => Ok(Call::Find { id: words.id()? }),
-        "open" => read_open(heap, words),
+        "open" => Ok(Call::Open {
+            policy: read_policy(words)?,
+            source: Source::read(heap, words)?,
+            reading: words.number()?,
+        }),
         name => Ok(Call::OnBox(read_box_call(heap, name, words)?)),
     }
 }

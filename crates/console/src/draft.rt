@@ -1,5 +1,6 @@
 use crate::answer::Answer;
-use crate::perform::{add, find, publish};
+use crate::front::front;
+use crate::trouble::Trouble;
 use common::IdCode;
 use plan::Plan;
 use std::alloc::{AllocError, Global};
@@ -24,41 +25,31 @@ impl Draft {
         })
     }
 
-    pub fn plan(&self) -> Option<Plan> {
-        self.plan
-    }
-
-    pub fn buffer(&self) -> &[u8] {
-        self.buffer.as_slice()
+    pub fn plan(&self) -> Result<Plan, Trouble> {
+        self.plan.ok_or(Trouble::NoPlan)
     }
 
     // Begins a new plan, with the buffer renewed.
-    pub fn begin(&mut self, id: IdCode, rate: u16) -> Answer {
+    pub fn begin(&mut self, id: IdCode, rate: u16) -> Answer<'static> {
         self.plan = Some(Plan::begin(id, rate));
         self.buffer.as_mut_slice().fill(FILLER);
         Answer::Done
     }
 
-    pub fn add(&mut self, frame: &[u8], room: usize) -> Answer {
-        let Some(mut plan) = self.plan else {
-            return Answer::NoPlan;
-        };
-        let answer = add(&mut plan, frame, self.buffer.as_mut_slice(), room);
-        self.plan = Some(plan);
-        answer
+    pub fn add(&mut self, frame: &[u8], room: usize) -> Result<Answer<'static>, Trouble> {
+        let plan = self.plan.as_mut().ok_or(Trouble::NoPlan)?;
+        let port = plan.add(frame, front(self.buffer.as_mut_slice(), room))?;
+        Ok(Answer::Added(port))
     }
 
-    pub fn publish(&mut self, reading: u64, room: usize) -> Answer {
-        match self.plan {
-            Some(plan) => publish(&plan, reading, self.buffer.as_mut_slice(), room),
-            None => Answer::NoPlan,
-        }
+    pub fn publish(&mut self, reading: u64, room: usize) -> Result<Answer<'_>, Trouble> {
+        let plan = self.plan()?;
+        let buffer = front(self.buffer.as_mut_slice(), room);
+        let len = plan.publish(reading, buffer)?;
+        Ok(Answer::Published(front(buffer, len)))
     }
 
-    pub fn find(&self, id: IdCode) -> Answer {
-        match self.plan {
-            Some(plan) => find(&plan, id),
-            None => Answer::NoPlan,
-        }
+    pub fn find(&self, id: IdCode) -> Result<Answer<'static>, Trouble> {
+        Ok(Answer::Found(self.plan()?.find(id)))
     }
 }

@@ -4,9 +4,8 @@ use std::io::{BufRead, BufReader};
 // All lines of standard input.
 pub fn read_lines(rt: &HostRuntime) -> anyhow::Result<Vec<Line>> {
     let heap = rt.alloc();
-    let mut lines = Vec::new(heap);
-    for bytes in BufReader::new(heap, rt.stdin())?.split(heap, b'\n') {
-        lines.push(Line::read(heap, bytes?))?;
-    }
-    Ok(lines)
+    BufReader::new(heap, rt.stdin())?
+        .split(heap, b'\n')
+        .map(|bytes| -> anyhow::Result<Line> { Ok(Line::read(heap, bytes?)) })
+        .try_collect(heap)
 }

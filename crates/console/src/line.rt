@@ -8,15 +8,12 @@ use std::str;
 pub enum Line {
     // Empty, or begins with `#`: printed as it stands.
     Remark(Vec<u8>),
-    Call(Call),
-    NoCall(Reason),
+    // A call, or why the line is none.
+    Call(Result<Call, Reason>),
 }
 
 fn read_call(heap: Global, bytes: &[u8]) -> Result<Call, Reason> {
-    match str::from_utf8(bytes) {
-        Ok(text) => Call::read(heap, text),
-        Err(_) => Err(Reason::NoText),
-    }
+    Call::read(heap, str::from_utf8(bytes)?)
 }
 
 impl Line {
@@ -24,9 +21,6 @@ impl Line {
         if matches!(bytes.as_slice(), [] | [b'#', ..]) {
             return Line::Remark(bytes);
         }
-        match read_call(heap, bytes.as_slice()) {
-            Ok(call) => Line::Call(call),
-            Err(reason) => Line::NoCall(reason),
-        }
+        Line::Call(read_call(heap, bytes.as_slice()))
     }
 }

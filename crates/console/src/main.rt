@@ -2,18 +2,19 @@
 #![tactic(auto)]
 
 mod answer;
+mod bytes;
 mod call;
 mod draft;
-mod hex;
+mod front;
 mod input;
 mod line;
 mod number;
-mod perform;
+mod open_box;
 mod reason;
 mod run;
 mod session;
 mod source;
-mod ticket;
+mod trouble;
 mod words;
 
 use input::read_lines;

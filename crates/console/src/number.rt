@@ -1,29 +1,17 @@
 use crate::reason::Reason;
 
-// A decimal number.
+// A decimal number, with no sign.
 pub fn decimal(word: &str) -> Result<u64, Reason> {
-    if word.is_empty() {
+    // `parse` would take a plus
+    if word.starts_with('+') {
         return Err(Reason::NoNumber);
     }
-    let mut number: u64 = 0;
-    for byte in word.bytes() {
-        let digit = match byte {
-            b'0'..=b'9' => byte - b'0',
-            _ => return Err(Reason::NoNumber),
-        };
-        let Some(tens) = number.checked_mul(10) else {
-            return Err(Reason::OutOfRange);
-        };
-        let Some(sum) = tens.checked_add(u64::from(digit)) else {
-            return Err(Reason::OutOfRange);
-        };
-        number = sum;
-    }
-    Ok(number)
+    Ok(word.parse::<u64>()?)
 }
 
 // A decimal number with a minus before it, or without.
 pub fn signed(word: &str) -> Result<i32, Reason> {
+    // by its digits: `parse::<i32>` would call a long word out of range before it finds a wrong digit
     match word.strip_prefix('-') {
         Some(digits) => {
             let amount = i64::try_from(decimal(digits)?)?;
@@ -35,17 +23,13 @@ pub fn signed(word: &str) -> Result<i32, Reason> {
 
 // Sixteen such numbers, with a comma between each two.
 pub fn sixteen(word: &str) -> Result<[i32; 16], Reason> {
+    let mut words = word.split(',');
     let mut numbers = [0; 16];
-    let mut count = 0;
-    for text in word.split(',') {
-        if count >= 16 {
-            return Err(Reason::NoShifts);
-        }
-        numbers[count] = signed(text)?;
-        count += 1;
+    for number in &mut numbers {
+        *number = signed(words.next().ok_or(Reason::NoShifts)?)?;
     }
-    if count < 16 {
-        return Err(Reason::NoShifts);
+    match words.next() {
+        Some(_) => Err(Reason::NoShifts),
+        None => Ok(numbers),
     }
-    Ok(numbers)
 }

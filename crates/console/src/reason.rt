@@ -1,62 +1,57 @@
-use std::alloc::{AllocError, AllocFailed};
-use std::fmt;
-use std::num::TryFromIntError;
+use hex::FromHexError;
+use std::alloc::AllocError;
+use std::num::{IntErrorKind, ParseIntError, TryFromIntError};
+use std::str::Utf8Error;
+use thiserror::Error;
 
 // Why a line is no call.
-#[derive(Clone, Copy)]
+#[derive(Clone, Copy, Debug, Error)]
 pub enum Reason {
-    NoText,
+    #[error("not a call: not UTF-8 text")]
+    NoText(#[from] Utf8Error),
+    #[error("not a call: no such call")]
     UnknownCall,
+    #[error("not a call: no such policy")]
     UnknownPolicy,
+    #[error("not a call: no such feed")]
     UnknownFeed,
+    #[error("not a call: too few words")]
     TooFewWords,
+    #[error("not a call: too many words")]
     TooManyWords,
+    #[error("not a call: a number is not decimal")]
     NoNumber,
+    #[error("not a call: a number is out of range")]
     OutOfRange,
+    #[error("not a call: bytes are not pairs of lowercase hex digits")]
     NoHex,
+    #[error("not a call: not sixteen shifts")]
     NoShifts,
-    NoMemory,
+    #[error("not a call: no memory for it")]
+    NoMemory(#[from(alloc)] AllocError),
 }
 
-impl Reason {
-    fn words(self) -> &'static str {
-        match self {
-            Reason::NoText => "not UTF-8 text",
-            Reason::UnknownCall => "no such call",
-            Reason::UnknownPolicy => "no such policy",
-            Reason::UnknownFeed => "no such feed",
-            Reason::TooFewWords => "too few words",
-            Reason::TooManyWords => "too many words",
-            Reason::NoNumber => "a number is not decimal",
-            Reason::OutOfRange => "a number is out of range",
-            Reason::NoHex => "bytes are not pairs of lowercase hex digits",
-            Reason::NoShifts => "not sixteen shifts",
-            Reason::NoMemory => "no memory for it",
+// By hand, since no one error is behind every number out of range, every wrong digit, or every missing byte.
+impl From<TryFromIntError> for Reason {
+    fn from(_error: TryFromIntError) -> Reason {
+        Reason::OutOfRange
+    }
+}
+
+impl From<ParseIntError> for Reason {
+    fn from(error: ParseIntError) -> Reason {
+        match error.kind() {
+            IntErrorKind::PosOverflow => Reason::OutOfRange,
+            _ => Reason::NoNumber,
         }
     }
 }
 
-impl fmt::Display for Reason {
-    fn fmt<W: fmt::Write>(&self, f: &mut fmt::Formatter<W>) -> fmt::Result {
-        let words = self.words();
-        write!(f, "not a call: {words}")
-    }
-}
-
-impl From<AllocError> for Reason {
-    fn from(_error: AllocError) -> Reason {
-        Reason::NoMemory
-    }
-}
-
-impl<T: Drop> From<AllocFailed<T>> for Reason {
-    fn from(_error: AllocFailed<T>) -> Reason {
-        Reason::NoMemory
-    }
-}
-
-impl From<TryFromIntError> for Reason {
-    fn from(_error: TryFromIntError) -> Reason {
-        Reason::OutOfRange
+impl From<FromHexError> for Reason {
+    fn from(error: FromHexError) -> Reason {
+        match error {
+            FromHexError::OutOfMemory => Reason::NoMemory(AllocError),
+            _ => Reason::NoHex,
+        }
     }
 }

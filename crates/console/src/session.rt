@@ -1,31 +1,20 @@
-use crate::answer::{Answer, Shown};
+use crate::answer::Answer;
 use crate::call::{BoxCall, Call};
 use crate::draft::Draft;
-use crate::perform::{admit, check, pull, take, tick, write};
+use crate::front::front;
+use crate::open_box::OpenBox;
 use crate::source::Source;
-use crate::ticket::{AnyBox, spend};
+use crate::trouble::Trouble;
 use crate::words::MOST_ROOM;
-use choice::{AnyFeed, AnyPolicy, Simple};
-use common::IdCode;
-use concentrator::{Concentrator, Ticket};
-use plan::Plan;
-use policy::Absolute;
+use choice::AnyPolicy;
 use std::alloc::{AllocError, Global};
 
-// What the calls act on: the plan, the box, and the buffer that is lent to the box. Before any box
-// was opened, a box without ports stands in its place.
-#[derive(Drop)]
+// What the calls act on: the plan, the box once one was opened, and the buffer that is lent to it.
+// It is let go by `close` alone, as the box is.
 pub struct Session<'a> {
     draft: Draft,
     scratch: Vec<u8>,
-    concentrator: AnyBox<'a>,
-    opened: bool,
-}
-
-fn no_box<'a>() -> AnyBox<'a> {
-    let plan = Plan::begin(IdCode(1), 1);
-    let policy = AnyPolicy::One(Simple::One(Absolute::new(0)));
-    Concentrator::open(&plan, AnyFeed::silent(), policy, 0)
+    opened: Option<OpenBox<'a>>,
 }
 
 impl<'a> Session<'a> {
@@ -33,8 +22,7 @@ impl<'a> Session<'a> {
         Ok(Session {
             draft: Draft::new(heap)?,
             scratch: vec![in heap; 0; MOST_ROOM]?,
-            concentrator: no_box(),
-            opened: false,
+            opened: None,
         })
     }
 
@@ -44,76 +32,54 @@ impl<'a> Session<'a> {
         policy: AnyPolicy,
         source: &'a Source,
         reading: u64,
-        held: Option<Ticket>,
-    ) -> (Answer, Option<Ticket>) {
-        let Some(plan) = self.draft.plan() else {
-            return (Answer::NoPlan, held);
-        };
-        spend(&mut self.concentrator, held);
-        self.concentrator = Concentrator::open(&plan, source.feed(), policy, reading);
-        self.opened = true;
-        (check(&self.concentrator), None)
+    ) -> Result<Answer<'static>, Trouble> {
+        let plan = self.draft.plan()?;
+        let opened = OpenBox::open(&plan, source.feed(), policy, reading);
+        let answer = opened.check();
+        if let Some(before) = self.opened.replace(opened) {
+            before.close();
+        }
+        answer
     }
 
     // Makes a call on the box, with a new buffer.
-    fn on_box(&mut self, call: &BoxCall, held: Option<Ticket>) -> (Answer, Option<Ticket>) {
-        if !self.opened {
-            return (Answer::NoBox, held);
-        }
+    fn on_box(&mut self, call: &BoxCall) -> Result<Answer<'_>, Trouble> {
+        let opened = self.opened.as_mut().ok_or(Trouble::NoBox)?;
         let scratch = self.scratch.as_mut_slice();
         scratch.fill(0);
         match call {
-            BoxCall::Tick { reading, room } => (
-                tick(&mut self.concentrator, *reading, scratch, *room),
-                held,
-            ),
-            BoxCall::Admit { port, frame } => (
-                admit(&mut self.concentrator, *port, frame.as_slice()),
-                held,
-            ),
-            BoxCall::Pull { room } => (pull(&mut self.concentrator, scratch, *room), held),
-            BoxCall::Write { number, room } => {
-                write(&mut self.concentrator, *number, scratch, *room, held)
-            }
-            BoxCall::Take => take(&mut self.concentrator, held),
+            BoxCall::Tick { reading, room } => opened.tick(*reading, front(scratch, *room)),
+            BoxCall::Admit { port, frame } => opened.admit(*port, frame.as_slice()),
+            BoxCall::Pull { room } => opened.pull(front(scratch, *room)),
+            BoxCall::Take => opened.take(),
+            BoxCall::Write { number, room } => opened.write(*number, front(scratch, *room)),
         }
     }
 
-    // Makes a call. The ticket that is out, if there is one, goes in and comes back.
-    pub fn perform(&mut self, call: &'a Call, held: Option<Ticket>) -> (Answer, Option<Ticket>) {
+    pub fn perform(&mut self, call: &'a Call) -> Result<Answer<'_>, Trouble> {
         match call {
-            Call::Plan { id, rate } => (self.draft.begin(*id, *rate), held),
-            Call::Add { frame, room } => (self.draft.add(frame.as_slice(), *room), held),
-            Call::Publish { reading, room } => (self.draft.publish(*reading, *room), held),
-            Call::Find { id } => (self.draft.find(*id), held),
+            Call::Plan { id, rate } => Ok(self.draft.begin(*id, *rate)),
+            Call::Add { frame, room } => self.draft.add(frame.as_slice(), *room),
+            Call::Publish { reading, room } => self.draft.publish(*reading, *room),
+            Call::Find { id } => self.draft.find(*id),
             Call::Open {
                 policy,
                 source,
                 reading,
-            } => self.open(*policy, source, *reading, held),
-            Call::OnBox(call) => self.on_box(call, held),
+            } => self.open(*policy, source, *reading),
+            Call::OnBox(call) => self.on_box(call),
         }
     }
 
     // Ends the session: a ticket that is still out is spent.
-    pub fn close(mut self, held: Option<Ticket>) {
-        spend(&mut self.concentrator, held);
+    pub fn close(self) {
+        let Session {
+            draft: _,
+            scratch: _,
+            opened,
+        } = self;
+        if let Some(opened) = opened {
+            opened.close();
+        }
     }
-
-    // An answer with the bytes of its frame.
-    pub fn shown(&self, answer: Answer) -> Shown<'_> {
-        let frame = match answer {
-            Answer::Published(len) => front(self.draft.buffer(), len),
-            Answer::Written(len) => front(self.scratch.as_slice(), len),
-            Answer::Pulled(pulled) => front(self.scratch.as_slice(), pulled.len),
-            _ => &[],
-        };
-        Shown { answer, frame }
-    }
-}
-
-// The front of a buffer, or all of it where it is shorter.
-fn front(buffer: &[u8], len: usize) -> &[u8] {
-    let end = len.min(buffer.len());
-    &buffer[0..end]
 }

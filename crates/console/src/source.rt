@@ -12,7 +12,7 @@ pub enum Source {
     Silent,
     Capture(Vec<u8>),
     Joined(Vec<u8>, Vec<u8>),
-    Shifted(Vec<u8>, [i32; 16]),
+    Shifted([i32; 16], Vec<u8>),
 }
 
 impl Source {
@@ -20,15 +20,8 @@ impl Source {
         match words.next()? {
             "silent" => Ok(Source::Silent),
             "capture" => Ok(Source::Capture(words.bytes(heap)?)),
-            "joined" => {
-                let first = words.bytes(heap)?;
-                let second = words.bytes(heap)?;
-                Ok(Source::Joined(first, second))
-            }
-            "shifted" => {
-                let shifts = words.shifts()?;
-                Ok(Source::Shifted(words.bytes(heap)?, shifts))
-            }
+            "joined" => Ok(Source::Joined(words.bytes(heap)?, words.bytes(heap)?)),
+            "shifted" => Ok(Source::Shifted(words.shifts()?, words.bytes(heap)?)),
             _ => Err(Reason::UnknownFeed),
         }
     }
@@ -42,34 +35,28 @@ impl Source {
                 Recorded::over(first.as_slice()),
                 Recorded::over(second.as_slice()),
             ),
-            Source::Shifted(bytes, shifts) => {
+            Source::Shifted(shifts, bytes) => {
                 AnyFeed::shifted(Recorded::over(bytes.as_slice()), Shifts::new(*shifts))
             }
         }
     }
 }
 
-// A policy that is no combination, by its first word.
+// A policy that is no combination, whose first word is `kind`.
 fn simple(kind: &str, words: &mut Words) -> Result<Simple, Reason> {
     match kind {
         "abs" => Ok(Simple::One(Absolute::new(words.number()?))),
-        "rel" => {
-            let after_arrival = words.number()?;
-            let wait = words.number()?;
-            Ok(Simple::Other(Relative::new(after_arrival, wait)))
-        }
+        "rel" => Ok(Simple::Other(Relative::new(words.number()?, words.number()?))),
         _ => Err(Reason::UnknownPolicy),
     }
 }
 
 pub fn read_policy(words: &mut Words) -> Result<AnyPolicy, Reason> {
-    let kind = words.next()?;
-    if kind != "soon" {
-        return Ok(AnyPolicy::One(simple(kind, words)?));
+    match words.next()? {
+        "soon" => Ok(AnyPolicy::Other(Sooner::new(
+            simple(words.next()?, words)?,
+            simple(words.next()?, words)?,
+        ))),
+        kind => Ok(AnyPolicy::One(simple(kind, words)?)),
     }
-    let kind = words.next()?;
-    let one = simple(kind, words)?;
-    let kind = words.next()?;
-    let other = simple(kind, words)?;
-    Ok(AnyPolicy::Other(Sooner::new(one, other)))
 }

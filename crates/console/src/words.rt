@@ -1,4 +1,4 @@
-use crate::hex::bytes_of;
+use crate::bytes::bytes_of;
 use crate::number::{decimal, sixteen};
 use crate::reason::Reason;
 use common::{IdCode, Port};
@@ -7,7 +7,8 @@ use std::alloc::Global;
 // The longest buffer that a call may ask for.
 pub const MOST_ROOM: usize = 70_000;
 
-// The words of a line that are still to be read, with a space between each two.
+// The words of a line that are still to be read, with a space between each two. It is `Copy`, which
+// std's `Split` is not.
 #[derive(Clone, Copy)]
 pub struct Words<'a> {
     rest: Option<&'a str>,
@@ -19,19 +20,13 @@ impl<'a> Words<'a> {
     }
 
     pub fn next(&mut self) -> Result<&'a str, Reason> {
-        let Some(rest) = self.rest else {
-            return Err(Reason::TooFewWords);
+        let rest = self.rest.ok_or(Reason::TooFewWords)?;
+        let (word, rest) = match rest.split_once(' ') {
+            Some((word, rest)) => (word, Some(rest)),
+            None => (rest, None),
         };
-        match rest.split_once(' ') {
-            Some((word, rest)) => {
-                self.rest = Some(rest);
-                Ok(word)
-            }
-            None => {
-                self.rest = None;
-                Ok(rest)
-            }
-        }
+        self.rest = rest;
+        Ok(word)
     }
 
     // Refuses a line that has words left.
