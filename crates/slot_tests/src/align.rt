@@ -3,10 +3,7 @@ use slots::Rate;
 
 // The slot at so many frames a second, none also where there is no such rate.
 fn slot_of(frames: u16, time_base: u32, soc: u32, count: u32) -> Option<u64> {
-    match Rate::new(frames) {
-        Some(rate) => rate.slot_of(time_base, soc, count),
-        None => None,
-    }
+    Rate::new(frames)?.slot_of(time_base, soc, count)
 }
 
 #[test]
