@@ -1,35 +1,34 @@
 // Frames with one thing wrong, and the refusal that each gets.
-use crate::hex::from_hex;
-use crate::samples::DATA;
 use common::Fault;
-use std::alloc::{AllocError, Global};
+use fixtures::{DATA, from_hex, number};
+use hex::FromHexError;
+use std::alloc::Global;
 use std::test::Fail;
 use wire::{Frame, seal};
 
 // The number that the bytes are refused with, 0 if they are told apart.
 fn verdict(bytes: &[u8]) -> u8 {
-    match Frame::read(bytes) {
-        Ok(_) => 0,
-        Err(fault) => fault.number(),
-    }
+    number(Frame::read(bytes))
 }
 
-// The standard's data frame with the byte at `at` made `byte`, and a check word that fits it again.
-fn resealed(heap: Global, at: usize, byte: u8) -> Result<u8, AllocError> {
+// The standard's data frame with the byte at `at` made `byte`, and the old check word.
+fn changed(heap: Global, at: usize, byte: u8) -> Result<Vec<u8>, FromHexError> {
     let mut bytes = from_hex(heap, DATA)?;
-    if at < bytes.len() {
-        bytes[at] = byte;
+    if let Some(place) = bytes.get_mut(at) {
+        *place = byte;
     }
+    Ok(bytes)
+}
+
+// The verdict on such a frame.
+fn unsealed(heap: Global, at: usize, byte: u8) -> Result<u8, FromHexError> {
+    Ok(verdict(changed(heap, at, byte)?.as_slice()))
+}
+
+// The verdict on such a frame, with a check word that fits it again.
+fn resealed(heap: Global, at: usize, byte: u8) -> Result<u8, FromHexError> {
+    let mut bytes = changed(heap, at, byte)?;
     seal(bytes.as_mut_slice());
-    Ok(verdict(bytes.as_slice()))
-}
-
-// The same, with the old check word.
-fn unsealed(heap: Global, at: usize, byte: u8) -> Result<u8, AllocError> {
-    let mut bytes = from_hex(heap, DATA)?;
-    if at < bytes.len() {
-        bytes[at] = byte;
-    }
     Ok(verdict(bytes.as_slice()))
 }
 

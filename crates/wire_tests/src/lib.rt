@@ -4,11 +4,7 @@
 #[cfg(test)]
 mod damaged;
 #[cfg(test)]
-mod hex;
-#[cfg(test)]
 mod numbers;
-#[cfg(test)]
-mod samples;
 #[cfg(test)]
 mod worked;
 #[cfg(test)]

@@ -1,7 +1,6 @@
 // The frames that the standard works out, field by field.
-use crate::hex::from_hex;
-use crate::samples::{CONFIG, DATA};
 use crc::check_word;
+use fixtures::{CONFIG, DATA, from_hex};
 use std::test::Fail;
 use wire::{Frame, FrameType, Header, Version};
 

@@ -1,5 +1,6 @@
 // Whole frames written, and read again.
-use common::{Fault, IdCode};
+use common::IdCode;
+use fixtures::number;
 use std::test::Fail;
 use wire::{Frame, FrameType, Header, TimeTag, Version, seal, write_frame};
 
@@ -8,14 +9,6 @@ const TIME: TimeTag = TimeTag {
     quality: 0x0f,
     count: 16_817,
 };
-
-// The number of a refusal, 0 for a success.
-fn number(answer: Result<usize, Fault>) -> u8 {
-    match answer {
-        Ok(_) => 0,
-        Err(fault) => fault.number(),
-    }
-}
 
 #[test]
 fn a_small_frame_byte_by_byte(rt: HostRuntime) -> Result<(), Fail> {
