@@ -2,7 +2,7 @@
 #![tactic(auto)]
 
 #[cfg(test)]
-mod build;
+mod count;
 #[cfg(test)]
 mod limits;
 #[cfg(test)]

@@ -1,5 +1,6 @@
-use crate::build::{Builder, count_records};
+use crate::count::count_records;
 use capture::Capture;
+use fixtures::Recording;
 use std::alloc::{AllocError, Global};
 use std::test::Fail;
 
@@ -13,9 +14,10 @@ fn outcome(bytes: &[u8]) -> usize {
     }
 }
 
-fn one_record(heap: Global, reading: u64, port: u8, len: u16) -> Result<usize, AllocError> {
-    let mut capture = Builder::new(heap)?;
-    capture.record(reading, port, len, 0xaa)?;
+fn one_record(heap: Global, reading: u64, port: u8, len: usize) -> Result<usize, AllocError> {
+    let frame = vec![in heap; 0xaa; len]?;
+    let mut capture = Recording::new(heap)?;
+    capture.record(reading, port, frame.as_slice())?;
     Ok(outcome(capture.bytes()))
 }
 
@@ -58,9 +60,9 @@ fn one_record_at_its_limits(rt: HostRuntime) -> Result<(), Fail> {
 
 #[test]
 fn a_cut_anywhere_is_unsound(rt: HostRuntime) -> Result<(), Fail> {
-    let mut capture = Builder::new(rt.alloc())?;
-    capture.record(7, 1, 3, 0x11)?;
-    capture.record(7, 2, 2, 0x22)?;
+    let mut capture = Recording::new(rt.alloc())?;
+    capture.record(7, 1, &[0x11; 3])?;
+    capture.record(7, 2, &[0x22; 2])?;
     let bytes = capture.bytes();
     // 5 bytes of header, then records of 14 and 13 bytes
     assert_eq!(rt; bytes.len(), 32);
