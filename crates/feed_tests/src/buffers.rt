@@ -1,7 +1,7 @@
 // Buffers of 1,039 and 1,040 bytes, at a feed of each kind.
-use crate::build::Builder;
 use crate::calls::{check_idle, check_next, check_short, tick};
 use feed::{Feed, Joined, Silent};
+use fixtures::Recording;
 use recorded::Recorded;
 use shift::{Shifted, Shifts};
 use std::process::Abort;
@@ -23,7 +23,7 @@ fn short_buffers_are_refused(rt: HostRuntime) -> Result<(), Fail> {
     let heap = rt.alloc();
     let frame = vec![in heap; 0xaa; 1040]?;
     let frame = frame.as_slice();
-    let mut built = Builder::new(heap)?;
+    let mut built = Recording::new(heap)?;
     built.record(5, 2, frame)?;
     let capture = Recorded::over(built.bytes());
     let mut plain = capture;

@@ -1,19 +1,12 @@
 // Calls of a feed, with what they are to answer.
 use common::Fault;
 use feed::Feed;
+use fixtures::number;
 use std::process::Abort;
 use std::test::Fail;
 
 // What every buffer is filled with before it is lent.
 const FILL: u8 = 0x55;
-
-// The number of a refusal, 0 for a success.
-fn number<T: Drop>(answer: Result<T, Fault>) -> u8 {
-    match answer {
-        Ok(_) => 0,
-        Err(fault) => fault.number(),
-    }
-}
 
 fn check_filled(rt: &impl Abort, bytes: &[u8]) {
     for byte in bytes {

@@ -1,5 +1,6 @@
-use crate::build::Builder;
+use crate::build::recording;
 use crate::calls::{Step, check_idle, check_next, check_steps, tick};
+use fixtures::{Recording, number};
 use recorded::Recorded;
 use std::alloc::Global;
 use std::process::Abort;
@@ -9,16 +10,13 @@ const LAST: u64 = 4_000_000_000_000_000;
 
 // The number that the check of a capture answers, 0 if it is sound.
 fn soundness(feed: &Recorded<'_>) -> u8 {
-    match feed.check() {
-        Ok(()) => 0,
-        Err(fault) => fault.number(),
-    }
+    number(feed.check())
 }
 
 #[test]
 fn frames_wait_in_their_order_once_they_have_come(rt: HostRuntime) -> Result<(), Fail> {
     let records = [(10, 4, 1), (10, 0, 2), (11, 15, 3), (20, 4, 4)];
-    let built = Builder::of(rt.alloc(), &records)?;
+    let built = recording(rt.alloc(), &records)?;
     let mut feed = Recorded::over(built.bytes());
     let steps: [Step<'_>; 5] = [
         (9, &[], true),
@@ -33,7 +31,7 @@ fn frames_wait_in_their_order_once_they_have_come(rt: HostRuntime) -> Result<(),
 
 #[test]
 fn a_falling_reading_adds_nothing(rt: HostRuntime) -> Result<(), Fail> {
-    let built = Builder::of(rt.alloc(), &[(5, 1, 1), (7, 1, 2)])?;
+    let built = recording(rt.alloc(), &[(5, 1, 1), (7, 1, 2)])?;
     let mut feed = Recorded::over(built.bytes());
     let steps: [Step<'_>; 5] = [
         (6, &[], false),
@@ -57,7 +55,7 @@ fn check_empty(rt: &impl Abort, bytes: &[u8]) -> Result<u8, Fail> {
 #[test]
 fn an_unsound_capture_stays_empty(rt: HostRuntime) -> Result<(), Fail> {
     // the last reading falls
-    let built = Builder::of(rt.alloc(), &[(7, 1, 1), (7, 1, 2), (6, 1, 3)])?;
+    let built = recording(rt.alloc(), &[(7, 1, 1), (7, 1, 2), (6, 1, 3)])?;
     let bytes = built.bytes();
     assert_eq!(rt; bytes.len(), 41);
     // a bare header is sound, and so are the first two records
@@ -79,7 +77,7 @@ fn one_record(
     len: usize,
 ) -> Result<u8, Fail> {
     let frame = vec![in heap; 0xaa; len]?;
-    let mut built = Builder::new(heap)?;
+    let mut built = Recording::new(heap)?;
     built.record(reading, port, frame.as_slice())?;
     let mut feed = Recorded::over(built.bytes());
     tick(&mut feed, reading)?;

@@ -1,4 +1,4 @@
-use crate::build::Builder;
+use crate::build::recording;
 use crate::calls::{Step, check_steps};
 use feed::Joined;
 use recorded::Recorded;
@@ -7,8 +7,8 @@ use std::test::Fail;
 #[test]
 fn the_first_comes_before_the_second(rt: HostRuntime) -> Result<(), Fail> {
     let heap = rt.alloc();
-    let left = Builder::of(heap, &[(10, 1, 1), (20, 1, 2), (40, 1, 3)])?;
-    let right = Builder::of(heap, &[(10, 2, 4), (15, 1, 5), (30, 2, 6)])?;
+    let left = recording(heap, &[(10, 1, 1), (20, 1, 2), (40, 1, 3)])?;
+    let right = recording(heap, &[(10, 2, 4), (15, 1, 5), (30, 2, 6)])?;
     let mut feed = Joined {
         first: Recorded::over(left.bytes()),
         second: Recorded::over(right.bytes()),

@@ -1,7 +1,8 @@
 // Feeds upon feeds, three levels and more.
-use crate::build::{Builder, command};
+use crate::build::command;
 use crate::calls::{check_idle, check_next, tick};
 use feed::{Feed, Joined, Silent};
+use fixtures::Recording;
 use recorded::Recorded;
 use shift::{Shifted, Shifts};
 use std::alloc::{AllocError, Global};
@@ -9,8 +10,8 @@ use std::process::Abort;
 use std::test::Fail;
 
 // A capture of the line `port`, with frames of the SOC 100 at the reading 10 and 200 at 20.
-fn line(heap: Global, port: u8) -> Result<Builder, AllocError> {
-    let mut built = Builder::new(heap)?;
+fn line(heap: Global, port: u8) -> Result<Recording, AllocError> {
+    let mut built = Recording::new(heap)?;
     built.record(10, port, &command(100, 0xe12e))?;
     built.record(20, port, &command(200, 0x764a))?;
     Ok(built)
