@@ -1,28 +1,31 @@
 -- An engine as a whole, and what each call answers and leaves of it.
 use Rattle.std.specs.Prelude.{ℕ, List, Ok, None, Option, Result}
 use Rattle.common.specs.declared.fault.Fault.{Fault}
-use Rattle.plan.specs.Plans.{PlanOf}
+use Rattle.plan.specs.declared.plan.Plan.{Plan}
+use Rattle.plan.specs.Views.{plan_of}
 use Rattle.engine.specs.Boxes.{Setting, Closing, Box}
 use Rattle.engine.specs.Calls as on
 
--- why it is shut, if it is, what never changes, and what changes
+-- why it is shut, if it is, the plan as it was given, what never changes, and what changes
 pub record State : Type 0 where
   pub shut : Option Fault
+  pub plan : Plan
   pub setting : Setting
   pub box : Box
 
 -- with another box
 abbrev pub with_box : State → Box → State
-with_box e b = record { shut = e.shut; setting = e.setting; box = b }
+with_box e b = record { shut = e.shut; plan = e.plan; setting = e.setting; box = b }
 
 -- with the box that a call leaves, unless it is shut
 abbrev pub left : State → Box → State
 left e b = with_box e (on.if_open e.shut e.box b)
 
 -- opened with a plan, under a policy, at a reading
-abbrev pub begins : Closing → PlanOf → ℕ → State
+abbrev pub begins : Closing → Plan → ℕ → State
 begins closing p reading =
-    record { shut = None; setting = on.open_setting p reading; box = on.opened closing (on.open_setting p reading) reading }
+    let setting = on.open_setting (plan_of p) reading in
+    record { shut = None; plan = p; setting = setting; box = on.opened closing setting reading }
 
 abbrev pub check_said : State → Result Unit Fault
 check_said e = on.unless_shut e.shut (Ok tt)

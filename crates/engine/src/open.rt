@@ -73,7 +73,7 @@ impl Engine {
     // An engine of the plan under the policy, from the reading on; against a refusal it is shut.
     pub fn open<P: Policy>(plan: &Plan, policy: &P, reading: u64) -> Engine
         ensures shut { (state_of result).shut ≡ open_fault (plan_of plan.now) (P.bound policy.now) reading }
-        ensures opens { (state_of result).shut ≡ None → state_of result ≡ begins (P.closing policy.now) (plan_of plan.now) reading }
+        ensures opens { (state_of result).shut ≡ None → state_of result ≡ begins (P.closing policy.now) plan.now reading }
     {
         match opening_rate(plan, policy.longest_wait(), reading) {
             Err(fault) => Engine::begin(Terms::refused(plan, fault), 0),

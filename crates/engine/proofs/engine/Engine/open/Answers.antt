@@ -25,5 +25,5 @@ returns-in-Ok g c =
     let made : ℕ → ℕ → Setting = λ F n. record { id = plan.id; rate = F; ports = plan.ports; first = n } in
     let own = ap (λ F. made F c.first_slot.result) rate ∙ ap (made plan.rate) first in
     let opened_with : State → State = λ e. with_box e (settled close e.setting e.box) in
-    let next = c.settle.ensures ∙ (ap opened_with c.begin-engine.ensures ∙ ap (λ (t : Setting). opened_with (record { shut = None; setting = t; box = begun t c.args.reading })) own) in
+    let next = c.settle.ensures ∙ (ap opened_with c.begin-engine.ensures ∙ ap (λ (t : Setting). opened_with (record { shut = None; plan = c.args.plan.now; setting = t; box = begun t c.args.reading })) own) in
     record { shut = ap (λ (e : State). e.shut) next ∙ (sym p.0 ∙ cc); opens = λ _. next }
