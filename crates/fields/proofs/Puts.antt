@@ -1,14 +1,13 @@
 -- Bytes written into a list, and behind one another.
-use Rattle.std.proofs.Common.{◌≡◌, ℕ, ◌+◌, ◌-◌, ◌≤◌, List, ◌++◌, length, take, drop, sym, ap, ◌∙◌, append_assoc, zero-add, arith, length-append, length-drop}
+use Rattle.std.proofs.Common.{◌≡◌, ℕ, ◌+◌, ◌-◌, ◌≤◌, List, ◌++◌, length, take, drop, sym, ap, ◌∙◌, append_assoc, arith, length-append, length-drop}
 use borrow.Rule.Slice.PartMut.{put_mid}
+use Rattle.std.proofs.lemmas.Grind.{common_steps}
 use Rattle.std.proofs.lemmas.List.{take_at, drop_at, drop-drop, take-append-drop, length-take-le}
 use Rattle.fields.specs.Fields.{put, over}
 
 -- what a write of zs to the part from a to e leaves
 pub part-put : (a e : ℕ) (xs ys zs : List ℕ) → ys ≡ zs → e ≡ a + length zs → put_mid a (e - a) xs ys ≡ put xs a zs
-part-put a e xs ys zs p q =
-    let k : e - a ≡ length zs = omega arith in
-    ap (λ u. put_mid a (e - a) xs u) p ∙ (ap (λ u. put_mid a u xs zs) k ∙ ap (λ u. take a xs ++ (zs ++ u)) (drop-drop (length zs) a xs))
+part-put a e xs ys zs p q = grind (arith, common_steps)
 
 -- a write behind what stands at the front
 pub put-over : (w o bs : List ℕ) (n : ℕ) → length w ≡ n → put (over w o) n bs ≡ over (w ++ bs) o
@@ -19,10 +18,6 @@ put-over w o bs n e =
     ∙ (drop-drop (length bs) (length w) o ∙ ap (λ k. drop k o) (sym (length-append w bs)))) in
     ap (λ u. u ++ (bs ++ drop (n + length bs) (over w o))) front
     ∙ (ap (λ u. w ++ (bs ++ u)) rest ∙ sym (append_assoc w bs (drop (length (w ++ bs)) o)))
-
--- a write at the front
-pub put_front : (xs bs : List ℕ) → put xs 0 bs ≡ over bs xs
-put_front xs bs = ap (λ k. bs ++ drop k xs) (zero-add (length bs))
 
 -- what stands behind the front may be counted to it
 over-more : (w o : List ℕ) (p : ℕ) → length w + p ≤ length o → over w o ≡ over (w ++ take p (drop (length w) o)) o
