@@ -3,3 +3,4 @@ mod Asked
 mod Back
 mod Held
 mod Holds
+mod Finds

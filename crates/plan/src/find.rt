@@ -35,15 +35,10 @@ impl Plan {
     pub fn find(&self, id: IdCode) -> Option<Place>
         ensures { option_map place_of result ≡ find_in (ports_of self.now.table) id.0 0 }
     {
-        let ports = self.ports();
-        for (number, port) in ports.iter().enumerate() {
-            if let Some(station) = position(port.stations.as_slice(), id) {
-                return Some(Place {
-                    port: Port(number as u8),
-                    station,
-                });
-            }
-        }
-        None
+        self.ports().iter().enumerate().find_map(|(number, port)| {
+            let station = position(port.stations.as_slice(), id)?;
+            let port = Port(number as u8);
+            Some(Place { port, station })
+        })
     }
 }
