@@ -17,13 +17,6 @@ when_none : (b : Bool) (y : ℕ) → None ≡ then_some b y → b ≡ false
 when_none false y e = refl
 when_none true y e = cc
 
-pub returns-then-is_empty : goal.returns-then-is_empty
-returns-then-is_empty c =
-    let n = sym (length-ports c.ports.result.now) ∙ ap length c.ports.ensures.value in
-    let e = c.if-is_empty.ensures in
-    let none : eqb (length (plan_of c.args.plan.now).ports) 0 ≡ true = cc in
-    rw (le-ltb 4000000000000000 c.args.reading (omega arith), none)
-
 -- a plan with ports, at a rate that there is
 module _ (p : PlanOf) (bound reading frames : ℕ) (h : reading ≤ 4000000000000000) (n : eqb (length p.ports) 0 ≡ false) (r : Some frames ≡ rate_from p.rate) where
   rate_is : frames ≡ p.rate

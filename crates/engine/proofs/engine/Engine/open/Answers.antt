@@ -8,11 +8,10 @@ use Rattle.engine.specs.States.{State, with_box}
 use Rattle.engine.proofs.Fronts.{first-near}
 use Rattle.engine.proofs.engine.Engine.open.Goals as goal
 
-pub begin-engine-requires : goal.begin-engine-requires
-begin-engine-requires g c =
-    let p = c.in-Ok.ensures in
-    let n = first-near (frames_of c.in-Ok.rate) c.args.reading c.in-Ok.rate.some p.2 in
-    record { time = p.2; near = omega (arith, n, c.first_slot.ensures.answer) }
+pub begin-engine-requires-clause-near : goal.begin-engine-requires-clause-near
+begin-engine-requires-clause-near g c =
+    let near = first-near (frames_of c.in-Ok.rate) c.args.reading c.in-Ok.rate.some c.in-Ok.ensures.2 in
+    omega (arith, near, c.first_slot.ensures.answer)
 
 pub returns-in-Ok : goal.returns-in-Ok
 returns-in-Ok g c =
