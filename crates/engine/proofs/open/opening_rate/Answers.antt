@@ -13,10 +13,6 @@ when_some : (b : Bool) (x y : ℕ) → Some x ≡ then_some b y → (b ≡ true)
 when_some true x y e = (refl, cc)
 when_some false x y e = (cc, cc)
 
-when_none : (b : Bool) (y : ℕ) → None ≡ then_some b y → b ≡ false
-when_none false y e = refl
-when_none true y e = cc
-
 -- a plan with ports, at a rate that there is
 module _ (p : PlanOf) (bound reading frames : ℕ) (h : reading ≤ 4000000000000000) (n : eqb (length p.ports) 0 ≡ false) (r : Some frames ≡ rate_from p.rate) where
   rate_is : frames ≡ p.rate
@@ -27,16 +23,6 @@ module _ (p : PlanOf) (bound reading frames : ℕ) (h : reading ≤ 400000000000
       let t = (when_some (leb 1 p.rate && leb p.rate 120) frames p.rate r).0 in
       let f : window_fits p.rate bound ≡ w = ap (λ x. window_fits x bound) (sym rate_is) ∙ sym e in
       rw (le-ltb 4000000000000000 reading h, n, t, f)
-
-pub returns-in_err-rate : goal.returns-in_err-rate
-returns-in_err-rate c =
-    let n = sym (length-ports c.ports.result.now) ∙ ap length c.ports.ensures.value in
-    let e = c.if-is_empty.ensures in
-    let some : eqb (length (plan_of c.args.plan.now).ports) 0 ≡ false = cc in
-    let none : None ≡ rate_from (plan_of c.args.plan.now).rate = sym (ap (option_map frames_of) c.in_err-rate.ensures.ok_part) ∙ (c.new.ensures ∙ ap rate_from c.rate.ensures) in
-    let off : (leb 1 (plan_of c.args.plan.now).rate && leb (plan_of c.args.plan.now).rate 120) ≡ false = when_none _ _ none in
-    let due : open_fault (plan_of c.args.plan.now) c.args.bound c.args.reading ≡ Some EmptyPlan = rw (le-ltb 4000000000000000 c.args.reading (omega arith), some, off) in
-    search (rules, due)
 
 pub returns-then-not-fits_window : goal.returns-then-not-fits_window
 returns-then-not-fits_window c =
