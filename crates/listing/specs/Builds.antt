@@ -17,7 +17,7 @@ unfoldable pub blank : List ℕ
 blank = replicate 40024 0
 
 -- a plan of the code 1 without ports, at the rate of the lowest line that has a configuration
-abbrev pub begun : List Record → State
+unfoldable pub begun : List Record → State
 begun rs = start 1 (unwrap_or (first_rate rs) 0) blank
 
 abbrev pub adds_of : Option Record → List Call
@@ -25,11 +25,11 @@ adds_of (Some r) = adding r.frame.now ∷ []
 adds_of None = []
 
 -- after the first configuration of a line, if it has one
-abbrev pub after_line : State → Option Record → State
+unfoldable pub after_line : State → Option Record → State
 after_line s c = after_calls s (adds_of c)
 
 -- after the lines below k, in their order
-abbrev pub after_lines : List Record → ℕ → State
+unfoldable pub after_lines : List Record → ℕ → State
 after_lines rs zero = begun rs
 after_lines rs (suc k) = after_line (after_lines rs k) (first_config rs k)
 
@@ -38,13 +38,13 @@ answered (Ok n) = outcome.Filled (record { 0 = n })
 answered (Err e) = outcome.Refused e
 
 -- what became of a line, by its first configuration, and by whether any record came
-abbrev pub outcome_of : State → Option Record → Bool → Outcome
+unfoldable pub outcome_of : State → Option Record → Bool → Outcome
 outcome_of s (Some r) used = answered (add_answer s.plan (adds s.plan r.frame.now (length s.buffer)))
 outcome_of s None true = outcome.NoConfiguration
 outcome_of s None false = outcome.Unused
 
 -- what became of the lines below k
-abbrev pub outcomes : List Record → ℕ → List Outcome
+unfoldable pub outcomes : List Record → ℕ → List Outcome
 outcomes rs zero = []
 outcomes rs (suc k) = outcomes rs k ++ outcome_of (after_lines rs k) (first_config rs k) (is_used rs k) ∷ []
 
@@ -53,7 +53,7 @@ front_by (Ok n) buffer = Ok (take n buffer)
 front_by (Err e) buffer = Err e
 
 -- the frame that publishing at a reading leaves at the buffer's front, or its refusal
-abbrev pub published : State → ℕ → Result (List ℕ) Fault
+unfoldable pub published : State → ℕ → Result (List ℕ) Fault
 published s reading = front_by (publishes s.plan reading (length s.buffer)) (after_call s (publishing reading)).buffer
 
 abbrev pub bytes_by : Result (Vec ℕ Global) Fault → Result (List ℕ) Fault

@@ -34,7 +34,7 @@ abbrev pub rate_in : List ℕ → Option ℕ
 rate_in bs = field bs (length bs - 4) 2 (be16 bs (length bs - 4))
 
 -- the first configuration of the lowest of the lines below k that has one
-abbrev pub lowest_config : List Record → ℕ → Option Record
+unfoldable pub lowest_config : List Record → ℕ → Option Record
 lowest_config rs zero = None
 lowest_config rs (suc k) = option_or (lowest_config rs k) (first_config rs k)
 

@@ -1,9 +1,9 @@
-ghost use Rattle.listing.specs.Builds.{filled_port};
-ghost use Rattle.listing.specs.Lines.{last_reading as last_reading_of};
+ghost use Rattle.listing.specs.Builds.{after_line, after_lines, bytes_by, filled_port, outcome_of, outcomes, published};
+ghost use Rattle.listing.specs.Lines.{first_config as first_config_of, is_used as used, last_reading as last_reading_of};
 ghost use Rattle.plan.specs.Tables.{port_of as port_in};
 ghost use Rattle.plan.specs.Views.{plan_of};
 ghost use Rattle.std.specs.Option.{option_map};
-ghost use Rattle.std.specs.Prelude.{◌≡◌, slice_get};
+ghost use Rattle.std.specs.Prelude.{◌≡◌, IfOk, slice_get};
 
 use crate::find::{LINES, first_config, first_rate, is_used};
 use capture::Record;
@@ -60,7 +60,12 @@ fn last_reading(records: &[Record]) -> u64
 }
 
 // Fills the next port from the line's first configuration.
-fn add_line(plan: &mut Plan, records: &[Record], line: Port, buffer: &mut [u8]) -> Outcome {
+#[tactic(auto, unfolding(crate::specs::Builds::after_line, crate::specs::Builds::outcome_of))]
+fn add_line(plan: &mut Plan, records: &[Record], line: Port, buffer: &mut [u8]) -> Outcome
+    ensures answer { result ≡ outcome_of (record { plan = plan_of plan.old; buffer = buffer.old }) (first_config_of records.now line.0) (used records.now line.0) }
+    ensures plan { plan_of plan.new ≡ (after_line (record { plan = plan_of plan.old; buffer = buffer.old }) (first_config_of records.now line.0)).plan }
+    ensures after { buffer.new ≡ (after_line (record { plan = plan_of plan.old; buffer = buffer.old }) (first_config_of records.now line.0)).buffer }
+{
     match first_config(records, line) {
         Some(record) => match plan.add(record.frame, buffer) {
             Ok(port) => Outcome::Filled(port),
@@ -72,7 +77,9 @@ fn add_line(plan: &mut Plan, records: &[Record], line: Port, buffer: &mut [u8]) 
 }
 
 // The combined configuration, published into the buffer that the ports were added with.
-fn publish(plan: &Plan, reading: u64, mut buffer: Vec<u8>) -> Result<Vec<u8>, Fault> {
+fn publish(plan: &Plan, reading: u64, mut buffer: Vec<u8>) -> Result<Vec<u8>, Fault>
+    ensures { bytes_by result ≡ published (record { plan = plan_of plan.now; buffer = buffer.items }) reading }
+{
     let size = plan.publish(reading, &mut buffer)?;
     buffer.truncate(size);
     Ok(buffer)
@@ -81,7 +88,11 @@ fn publish(plan: &Plan, reading: u64, mut buffer: Vec<u8>) -> Result<Vec<u8>, Fa
 impl Build {
     // A plan of the first configuration of each line, in the order of the lines, at the rate of
     // the lowest line that has one.
-    pub fn of(alloc: Global, records: &[Record]) -> Result<Build, AllocError> {
+    pub fn of(alloc: Global, records: &[Record]) -> Result<Build, AllocError>
+        ensures plan { IfOk result (λ b. plan_of b.plan ≡ (after_lines records.now 16).plan) }
+        ensures lines { IfOk result (λ b. b.lines.items ≡ outcomes records.now 16) }
+        ensures combined { IfOk result (λ b. bytes_by b.combined ≡ published (after_lines records.now 16) (last_reading_of records.now)) }
+    {
         let mut buffer = vec![in alloc; 0; ROOM]?;
         let mut plan = Plan::begin(COMBINED, first_rate(records).unwrap_or(0));
         let mut lines = Vec::new(alloc);

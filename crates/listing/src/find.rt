@@ -1,4 +1,4 @@
-ghost use Rattle.listing.specs.Lines.{is_config2, is_used as used, rate_in as rate_of_frame};
+ghost use Rattle.listing.specs.Lines.{first_config as first_config_of, first_rate as rate_of, is_config2, is_used as used, rate_in as rate_of_frame};
 ghost use Rattle.std.specs.Prelude.{◌≡◌};
 ghost use Rattle.wire.specs.Frames.{classified};
 
@@ -18,7 +18,9 @@ fn is_config(frame: &[u8]) -> bool
 }
 
 // The first configuration that came by a line.
-pub(crate) fn first_config<'a>(records: &[Record<'a>], line: Port) -> Option<Record<'a>> {
+pub(crate) fn first_config<'a>(records: &[Record<'a>], line: Port) -> Option<Record<'a>>
+    ensures { result ≡ first_config_of records.now line.0 }
+{
     records
         .iter()
         .find(|record| record.port.0 == line.0 && is_config(record.frame))
@@ -40,7 +42,9 @@ fn rate_in(frame: &[u8]) -> Option<u16>
 }
 
 // The rate of the first configuration of the lowest line that has one.
-pub(crate) fn first_rate(records: &[Record]) -> Option<u16> {
+pub(crate) fn first_rate(records: &[Record]) -> Option<u16>
+    ensures { result ≡ rate_of records.now }
+{
     let mut lowest = None;
     for line in 0..LINES {
         lowest = lowest.or(first_config(records, Port(line)));

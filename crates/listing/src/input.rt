@@ -19,6 +19,7 @@ pub enum InputError {
 // All bytes of an input, or an error where they are more than a capture may have.
 pub fn read_capture<R: Read + Drop>(alloc: Global, input: R) -> Result<Vec<u8>, InputError>
     ensures few { IfOk result (λ bytes. vec_len bytes ≤ 65536) }
+    ensures whole { IfOk result (λ bytes. IfSome (R.remaining input) (λ xs. bytes.items ≡ xs)) }
     ensures long { result ≡ Err InputError.TooLong → IfSome (R.remaining input) (λ xs. 65536 < length xs) }
 {
     let mut bytes = Vec::new(alloc);

@@ -1,5 +1,5 @@
 ghost use Rattle.listing.specs.Waits.{IsPolicyOf, names_wait};
-ghost use Rattle.std.specs.Prelude.{◌≡◌, ◌≤◌, ◌↔◌, true, false, IsNone, IfOk, IfSome, OnErr, None, Some, Ok, Err, string_bytes};
+ghost use Rattle.std.specs.Prelude.{◌≡◌, ◌≤◌, ◌↔◌, true, false, IsNone, IfOk, IfSome, OnErr, None, Some, Ok, Err, string_bytes, codes};
 ghost use Rattle.std.specs.Str.Parse.{ParsesUnsigned};
 ghost use Rattle.std.specs.Vec.Iter.{into_iter_len};
 
@@ -54,6 +54,8 @@ impl Waits {
     pub fn take(&mut self, word: &str, words: &mut Args) -> Result<bool, WaitError>
         ensures named { IfOk result (λ named. named ≡ names_wait word.now) }
         ensures other { names_wait word.now ≡ false → (result ≡ Ok false) × (self.new ≡ self.old) }
+        ensures longest { word.now ≡ codes "--wait" → self.new.after_arrival ≡ self.old.after_arrival }
+        ensures relative { word.now ≡ codes "--relative" → self.new.longest ≡ self.old.longest }
         ensures err { OnErr result (self.new ≡ self.old) }
         ensures shorter { into_iter_len words.new ≤ into_iter_len words.old }
     {

@@ -1,0 +1,3 @@
+mod InputLemmas
+mod LinesLemmas
+mod BuildsLemmas
