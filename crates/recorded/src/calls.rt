@@ -28,6 +28,7 @@ impl<'a> Recorded<'a> {
     }
 }
 
+// No call changes whether the capture is sound. A method with a clause of its own repeats those of its trait.
 impl<'a> Feed for Recorded<'a> {
     ghost meaning = { λ s. meaning_of s };
 
