@@ -1,5 +1,5 @@
 -- What the first lines leave, line by line.
-use Rattle.std.proofs.Common.{◌≡◌, ℕ, ◌+◌, List, [], ◌∷◌, ◌++◌, length, replicate, Option, Bool, Result, refl, sym, ◌∙◌, ap, unwrap_or}
+use Rattle.std.proofs.Common.{◌≡◌, ℕ, ◌+◌, List, [], ◌∷◌, ◌++◌, length, replicate, Result, refl, sym, ◌∙◌, ap, unwrap_or}
 use Rattle.std.proofs.Math.Numerals.{add-one}
 use Rattle.plan.specs.Plans.{PlanOf, begun as begun_plan}
 use Rattle.plan.specs.Runs.{State}

@@ -1,11 +1,10 @@
 -- The arguments that set waits.
-use Rattle.std.specs.Prelude.{◌≡◌, ℕ, Bool, ◌||◌, List, codes, Option, Some, None, Ok, Err, Result, bytes_eq}
+use Rattle.std.specs.Prelude.{◌≡◌, ℕ, Bool, ◌||◌, List, codes, Option, Some, None, bytes_eq}
 use Rattle.policy.specs.declared.absolute.Absolute.{Absolute}
 use Rattle.policy.specs.declared.relative.Relative.{Relative}
 use Rattle.policy.specs.Policies.{capped}
 use Rattle.choice.specs.declared.chosen.Chosen.{Chosen}
 use Rattle.choice.specs.declared.chosen.Chosen.TheVariants.{One, Other}
-use Rattle.listing.specs.declared.waits.Waits.{Waits}
 
 -- the word names a wait
 abbrev pub names_wait : List ℕ → Bool

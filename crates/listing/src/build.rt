@@ -17,7 +17,8 @@ const COMBINED: IdCode = IdCode(1);
 // Room for the longest configuration that a plan can make.
 const ROOM: usize = 40_024;
 
-// What became of a line of the capture.
+// What became of a line of the capture: one of four things, each with a name, which an Option of an
+// Option or of a Result would not tell.
 #[derive(Clone, Copy)]
 pub enum Outcome {
     // No record came by it.

@@ -1,18 +1,19 @@
-use Rattle.std.proofs.Common.{◌≡◌, ◌∙◌, sym, ap, length, unwrap_or, rules, arith}
+use Rattle.std.proofs.Common.{◌≡◌, ◌∙◌, sym, ap, length, unwrap_or, rules}
 use Rattle.std.proofs.lemmas.List.{take_at}
 use Rattle.plan.specs.Plans.{begun as begun_plan}
 use Rattle.plan.specs.Views.{plan_of}
-use Rattle.listing.specs.Builds.{after_line, after_lines, outcomes, published}
-use Rattle.listing.specs.Lines.{first_config}
+use Rattle.listing.specs.Builds.{after_lines, outcomes, published}
+use Rattle.listing.specs.Lines.{first_rate}
 use Rattle.listing.proofs.BuildsLemmas.{plan-none, buffer-none, outcomes-none, so_far, plan-one_more, buffer-one_more, lines-one_more}
 use Rattle.listing.proofs.build.Build.of.Goals as goal
 
 pub loop-line-init : goal.loop-line-init
 loop-line-init c =
     let rs = c.args.records.now in
+    let plan : plan_of c.begin-plan.result ≡ begun_plan 1 (unwrap_or (first_rate rs) 0) = search rules in
     let zeros = c.in_ok-buffer.ensures.items_if_clones_equal (λ y same. search rules) in
-    let rate = c.unwrap_or.ensures ∙ ap (λ r. unwrap_or r 0) c.first_rate.ensures in
-    (c.begin-plan.ensures ∙ (ap (begun_plan 1) rate ∙ sym (plan-none rs)), zeros ∙ sym (buffer-none rs), c.new-lines.ensures.items ∙ sym (outcomes-none rs))
+    let none = c.new-lines.ensures.items in
+    (search (plan, plan-none rs), zeros ∙ sym (buffer-none rs), search (none, outcomes-none rs))
 
 pub loop-line-preserved : goal.loop-line-preserved
 loop-line-preserved c =
