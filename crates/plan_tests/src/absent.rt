@@ -1,7 +1,7 @@
 // What is written for stations whose data did not come.
 use crate::build::{line, station};
 use crate::checks::read_config;
-use crate::hex::from_hex;
+use fixtures::from_hex;
 use layout::{block_len, fill_absent};
 use std::test::Fail;
 

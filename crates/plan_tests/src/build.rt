@@ -67,10 +67,8 @@ impl Builder {
     }
 
     fn fill(&mut self, n: usize, byte: u8) -> Result<(), AllocError> {
-        for _ in 0..n {
-            self.bytes.push(byte)?;
-        }
-        Ok(())
+        let end = self.bytes.len().saturating_add(n);
+        self.bytes.resize(end, byte)
     }
 
     // Cuts or pads the frame to `n` bytes.
@@ -83,10 +81,9 @@ impl Builder {
         let Builder { mut bytes } = self;
         bytes.extend_from_slice(&RATE.to_be_bytes())?;
         bytes.extend_from_slice(&[0, 0])?;
-        let [high, low] = ((bytes.len() % 65_536) as u16).to_be_bytes();
-        if bytes.len() > 3 {
-            bytes[2] = high;
-            bytes[3] = low;
+        let size = (bytes.len() % 65_536) as u16;
+        if let [_, _, high, low, ..] = bytes.as_mut_slice() {
+            [*high, *low] = size.to_be_bytes();
         }
         seal(bytes.as_mut_slice());
         Ok(bytes)

@@ -12,8 +12,6 @@ mod checks;
 #[cfg(test)]
 mod find;
 #[cfg(test)]
-mod hex;
-#[cfg(test)]
 mod lengths;
 #[cfg(test)]
 mod limits;
@@ -23,7 +21,5 @@ mod lines;
 mod publish;
 #[cfg(test)]
 mod refusals;
-#[cfg(test)]
-mod sample;
 #[cfg(test)]
 mod worked;

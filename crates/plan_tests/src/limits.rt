@@ -4,6 +4,7 @@ use crate::build::{BARE, station};
 use config::Station;
 use layout::data_len;
 use std::alloc::Global;
+use std::ops::Range;
 use std::process::Abort;
 use std::test::Fail;
 
@@ -13,11 +14,11 @@ fn check_lines(
     heap: Global,
     room: usize,
     stations: &[Station],
-    lines: &[(usize, usize, u8)],
+    lines: &[(Range<usize>, u8)],
 ) -> Result<(), Fail> {
     let mut bench = Bench::new(heap, room)?;
-    for (from, to, outcome) in lines {
-        let part = stations.get(*from..*to).ok_or("no such stations")?;
+    for (range, outcome) in lines {
+        let part = stations.get(range.clone()?).ok_or("no such stations")?;
         assert_eq!(rt; bench.add(7, part)?, *outcome);
     }
     Ok(())
@@ -44,7 +45,7 @@ fn thirty_two_stations(rt: HostRuntime) -> Result<(), Fail> {
         heap,
         2_000,
         &eight,
-        &[(0, 8, 0), (0, 8, 1), (0, 8, 2), (0, 8, 3), (0, 1, 127)],
+        &[(0..8, 0), (0..8, 1), (0..8, 2), (0..8, 3), (0..1, 127)],
     )?;
     check_lines(
         &rt,
@@ -52,13 +53,13 @@ fn thirty_two_stations(rt: HostRuntime) -> Result<(), Fail> {
         2_000,
         &eight,
         &[
-            (0, 8, 0),
-            (0, 8, 1),
-            (0, 8, 2),
-            (0, 7, 3),
-            (0, 2, 127),
-            (0, 1, 4),
-            (0, 1, 127),
+            (0..8, 0),
+            (0..8, 1),
+            (0..8, 2),
+            (0..7, 3),
+            (0..2, 127),
+            (0..1, 4),
+            (0..1, 127),
         ],
     )
 }
@@ -77,7 +78,7 @@ fn data_of_1024_bytes(rt: HostRuntime) -> Result<(), Fail> {
         heap,
         9_000,
         &stations,
-        &[(1, 5, 127), (2, 6, 0), (0, 1, 127)],
+        &[(1..5, 127), (2..6, 0), (0..1, 127)],
     )?;
     // 768, 258 more, 256 more, and 6 more
     check_lines(
@@ -85,7 +86,7 @@ fn data_of_1024_bytes(rt: HostRuntime) -> Result<(), Fail> {
         heap,
         9_000,
         &stations,
-        &[(3, 6, 0), (1, 2, 127), (2, 3, 1), (0, 1, 127)],
+        &[(3..6, 0), (1..2, 127), (2..3, 1), (0..1, 127)],
     )?;
     // the limit comes before the buffer
     check_lines(
@@ -93,7 +94,7 @@ fn data_of_1024_bytes(rt: HostRuntime) -> Result<(), Fail> {
         heap,
         0,
         &stations,
-        &[(1, 5, 127), (2, 6, 117), (0, 1, 117)],
+        &[(1..5, 127), (2..6, 117), (0..1, 117)],
     )
 }
 

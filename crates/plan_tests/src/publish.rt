@@ -1,21 +1,12 @@
 // The combined configuration, and the buffer that it is made in.
 use crate::bench::Bench;
 use crate::build::{BARE, station};
-use crate::hex::from_hex;
-use common::Fault;
 use fields::u32_at;
+use fixtures::{from_hex, number};
 use std::test::Fail;
 use wire::seal;
 
 const LAST: u64 = 4_000_000_000_000_000;
-
-// The number of a refusal, 0 for a success.
-fn number(answer: Result<usize, Fault>) -> u8 {
-    match answer {
-        Ok(_) => 0,
-        Err(fault) => fault.number(),
-    }
-}
 
 #[test]
 fn an_empty_plan(rt: HostRuntime) -> Result<(), Fail> {

@@ -2,9 +2,8 @@
 use crate::bench::Bench;
 use crate::build::station;
 use crate::checks::{check_stations, read_config};
-use crate::hex::from_hex;
-use crate::sample::CONFIG;
 use fields::put_u16;
+use fixtures::{CONFIG, from_hex};
 use layout::data_len;
 use std::test::Fail;
 use wire::seal;
