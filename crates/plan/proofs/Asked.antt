@@ -13,7 +13,7 @@ use Rattle.wire.specs.declared.kind.FrameType.TheVariants as type
 use Rattle.wire.specs.declared.header.Header.{Header}
 use Rattle.wire.specs.Kinds.{sync}
 use Rattle.wire.specs.Headers.{headed, header_of}
-use Rattle.wire.specs.Frames.{Told, of_data, of_config2, of_other, telling, body_of, checks, told_by, classified}
+use Rattle.wire.specs.Frames.{Told, of_data, of_config2, of_other, telling, body_of, checks, told_by, classified, config_body_of}
 use Rattle.config.specs.declared.station.Station.{Station}
 use Rattle.config.specs.Stations.{part_length, few, stations_in}
 use Rattle.config.specs.Configs.{Says, configured, parts_of}
@@ -21,7 +21,7 @@ use Rattle.config.proofs.Exact.{err_not_ok, passed, not_stopped, stations_exact,
 use Rattle.config.specs.Formats.{float_phasors, float_analogs}
 use Rattle.layout.specs.Blocks.{number_length, block_length, data_length}
 use Rattle.plan.specs.Ports.{PortOf, part_lengths}
-use Rattle.plan.specs.Plans.{asked, bodied, config_body_of, port_from, parts_in}
+use Rattle.plan.specs.Plans.{asked, bodied, port_from, parts_in}
 use Rattle.plan.specs.Runs.{stations_of, stations_by}
 
 two_each : (n : ℕ) (float : Bool) → 2 * n ≤ n * number_length float

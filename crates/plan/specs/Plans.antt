@@ -5,7 +5,7 @@ use Rattle.common.specs.declared.fault.Fault.TheVariants as fault
 use Rattle.common.specs.declared.ids.Port.{Port}
 use Rattle.common.specs.Ids.{reserved}
 use Rattle.fields.specs.Fields.{be16, put}
-use Rattle.wire.specs.Frames.{Told, of_data, of_config2, of_other, classified}
+use Rattle.wire.specs.Frames.{classified, config_body_of}
 use Rattle.config.specs.Configs.{Says, configured}
 use Rattle.layout.specs.Blocks.{data_length}
 use Rattle.plan.specs.Ports.{PortOf, station_count, body_length, part_lengths, parts_length}
@@ -22,13 +22,6 @@ begun id rate = record { id = id; rate = rate; ports = [] }
 -- the plan's own code and rate, 1 to 120
 abbrev pub own : PlanOf → Result Unit Fault
 own p = cond (reserved p.id) (Err fault.IdCode) (cond (nat_le 1 p.rate && nat_le p.rate 120) (Ok tt) (Err fault.Rate))
-
--- the body of a configuration 2
-abbrev pub config_body_of : Result Told Fault → Result (List ℕ) Fault
-config_body_of (Ok (of_data b)) = Err fault.FrameType
-config_body_of (Ok (of_config2 b)) = Ok b
-config_body_of (Ok (of_other b)) = Err fault.FrameType
-config_body_of (Err e) = Err e
 
 -- a port from what a configuration says, if its rate is the plan's
 abbrev pub port_from : ℕ → ℕ → Result Says Fault → Result PortOf Fault

@@ -1,6 +1,5 @@
 -- What the code's own values stand for.
-use Rattle.std.specs.Prelude.{ℕ, List, Ok, Err, Result}
-use Rattle.std.specs.Borrow.{Bor}
+use Rattle.std.specs.Prelude.{Ok, Err, Result}
 use Rattle.common.specs.declared.fault.Fault.{Fault}
 use Rattle.plan.specs.declared.record.Record.{Record}
 use Rattle.plan.specs.declared.request.Request.{Request}
@@ -19,10 +18,6 @@ port_by (Err e) = Err e
 abbrev pub requested_by : Result Request Fault → Result PortOf Fault
 requested_by (Ok p) = Ok (port_of p.port)
 requested_by (Err e) = Err e
-
-abbrev pub held_by : Result (Bor (List ℕ)) Fault → Result (List ℕ) Fault
-held_by (Ok s) = Ok s.now
-held_by (Err e) = Err e
 
 -- a test that passes lets the port through
 abbrev pub passing : Result Unit Fault → PortOf → Result PortOf Fault

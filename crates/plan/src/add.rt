@@ -1,8 +1,7 @@
 ghost use Rattle.std.specs.Prelude.{◌≡◌, false, length, Ok, IfOk};
-ghost use Rattle.plan.specs.Plans.{add_answer, add_buffer, add_plan, adds, asked, begun, bodied, config_body_of, full, numbered, own, parts_in, placed};
+ghost use Rattle.plan.specs.Plans.{add_answer, add_buffer, add_plan, adds, asked, begun, bodied, full, numbered, own, parts_in, placed};
 ghost use Rattle.plan.specs.Tables.{port_of, ports_of};
-ghost use Rattle.plan.specs.Views.{held_by, requested_by, passing, plan_of, port_by};
-ghost use Rattle.wire.specs.Frames.{classified};
+ghost use Rattle.plan.specs.Views.{requested_by, passing, plan_of, port_by};
 
 use crate::plan::{BEHIND_PARTS, PARTS_AT, Plan};
 use crate::record::Record;
@@ -18,16 +17,6 @@ const MOST_STATIONS_A_LINE: u16 = 8;
 
 // The longest data body of a plan.
 const LONGEST_BODY: usize = 1024;
-
-// The body of a configuration-2 frame.
-fn config_body(bytes: &[u8]) -> Result<&[u8], Fault>
-    ensures { held_by result ≡ config_body_of (classified bytes.now) }
-{
-    match Frame::read(bytes)? {
-        Frame::Config2(body) => Ok(body),
-        Frame::Data(_) | Frame::Other(_) => Err(Fault::FrameType),
-    }
-}
 
 // The record that a configuration's body asks for, of the sender `id`, at a rate.
 fn read_body(body: &[u8], id: IdCode, rate: u16) -> Result<Record, Fault>
@@ -52,7 +41,7 @@ fn read_record(bytes: &[u8], rate: u16) -> Result<Record, Fault>
     ensures { port_by result ≡ asked rate bytes.now }
 {
     let header = Header::read(bytes)?;
-    let body = config_body(bytes)?;
+    let body = Frame::read(bytes)?.config2()?;
     read_body(body, header.id, rate)
 }
 

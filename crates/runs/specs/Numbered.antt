@@ -11,11 +11,11 @@ use Rattle.wire.specs.declared.header.Header.{Header}
 use Rattle.wire.specs.declared.header.TimeTag.{TimeTag}
 use Rattle.wire.specs.Kinds.{type_of, version_of, both, sync}
 use Rattle.wire.specs.Headers.{headed, header_of, time_of}
-use Rattle.wire.specs.Frames.{Told, of_data, of_config2, of_other, telling, body_of, checks, told_by, classified}
+use Rattle.wire.specs.Frames.{Told, of_data, of_config2, of_other, telling, body_of, checks, told_by, classified, data_body_of}
 use Rattle.layout.specs.Blocks.{data_length}
 use Rattle.plan.specs.Ports.{PortOf}
 use Rattle.slots.specs.Slots.{slot_of}
-use Rattle.sample.specs.Samples.{SampleOf, data_body_of, sent_by, in_slot, bodied, sample_of}
+use Rattle.sample.specs.Samples.{SampleOf, sent_by, in_slot, bodied, sample_of}
 use Rattle.combined.specs.Blocks.{port_at}
 use Rattle.engine.specs.Boxes as E
 use Rattle.engine.specs.Calls as K

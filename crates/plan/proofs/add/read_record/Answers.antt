@@ -7,6 +7,10 @@ pub returns-in_err-header : goal.returns-in_err-header
 unfolding asked
 returns-in_err-header c = search rules
 
+pub returns-in_err-read : goal.returns-in_err-read
+unfolding asked
+returns-in_err-read c = search rules
+
 pub returns-in_err-body : goal.returns-in_err-body
 unfolding asked
 returns-in_err-body c = search rules
