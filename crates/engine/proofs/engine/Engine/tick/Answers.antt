@@ -16,7 +16,8 @@ returns-clause-next g c =
     let close = g.P.Policy.closing c.args.policy.now in
     let o = opens s.terms.shut c.in_ok-check.field-0 c.in_ok-check.ensures in
     let said = passes (box_of s) c.args.reading (omega arith) (omega arith) in
+    let latest : c.max-latest.result ≡ max c.args.reading s.latest = omega (arith, c.max-latest.ensures) in
     c.settle.ensures
-    ∙ (ap (λ n. with_box (state_of s) (settled close (setting_of s) (timed (box_of s) n))) c.max-latest.ensures
+    ∙ (ap (λ n. with_box (state_of s) (settled close (setting_of s) (timed (box_of s) n))) latest
     ∙ (ap (λ r. with_box (state_of s) (tick_by close (setting_of s) (box_of s) r)) (sym said)
     ∙ left_open (state_of s) (ticked close (setting_of s) (box_of s) c.args.reading) o))
