@@ -1,6 +1,7 @@
 use std::fmt;
 
-// A frame as one line of a hex dump: the offset of its first byte, and then all its bytes.
+// A frame as one line of a hex dump: the offset of its first byte, and then all its bytes, with a
+// space before each, which an encoder of a whole text does not set.
 #[derive(Clone, Copy)]
 pub struct HexLine<'a>(pub &'a [u8]);
 

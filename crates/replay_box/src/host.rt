@@ -36,7 +36,8 @@ pub struct Host<'a> {
     report: Report,
 }
 
-// The front of a buffer, or all of it where it is shorter.
+// The front of a buffer, or all of it where it is shorter. What the calls promise of a length they
+// say by their model and not as a bound, so a slice by it alone is no plainer.
 fn front(buffer: &[u8], len: usize) -> &[u8] {
     let end = len.min(buffer.len());
     &buffer[0..end]
