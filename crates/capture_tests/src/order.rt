@@ -1,5 +1,6 @@
 use crate::count::count_records;
 use capture::Capture;
+use common::Port;
 use fixtures::Recording;
 use std::test::Fail;
 
@@ -35,7 +36,7 @@ fn records_come_in_their_order(rt: HostRuntime) -> Result<(), Fail> {
     for (reading, port, len, fill) in [(10, 4, 2, 0xa0), (10, 5, 1, 0xa1), (12, 4, 3, 0xa2)] {
         let record = capture.next_record().ok_or("a record is missing")?;
         assert_eq!(rt; record.reading, reading);
-        assert_eq!(rt; record.port.0, port);
+        assert_eq!(rt; record.port, Port(port));
         assert_eq!(rt; record.frame.len(), len);
         for byte in record.frame {
             assert_eq!(rt; *byte, fill);

@@ -1,5 +1,5 @@
 // Calls of a feed, with what they are to answer.
-use common::Fault;
+use common::{Fault, Port};
 use feed::Feed;
 use fixtures::number;
 use std::process::Abort;
@@ -29,7 +29,7 @@ pub(crate) fn check_next<F: Feed>(
 ) -> Result<(), Fail> {
     let mut buffer = [FILL; 1040];
     let taken = feed.next(&mut buffer)?;
-    assert_eq!(rt; taken.port.0, port);
+    assert_eq!(rt; taken.port, Port(port));
     assert_eq!(rt; taken.len, frame.len());
     let (front, rest) = buffer
         .split_at_checked(frame.len())

@@ -1,4 +1,5 @@
 // The frames that the standard works out, field by field.
+use common::IdCode;
 use crc::check_word;
 use fixtures::{CONFIG, DATA, from_hex};
 use std::test::Fail;
@@ -17,7 +18,7 @@ fn data_header(rt: HostRuntime) -> Result<(), Fail> {
     assert_eq!(rt; header.kind, FrameType::Data);
     assert_eq!(rt; header.version, Version::Y2005);
     assert_eq!(rt; header.size, 52);
-    assert_eq!(rt; header.id.0, 7734);
+    assert_eq!(rt; header.id, IdCode(7734));
     assert_eq!(rt; header.time.soc, 1_149_580_800);
     assert_eq!(rt; header.time.quality, 0);
     assert_eq!(rt; header.time.count, 16_817);
@@ -47,7 +48,7 @@ fn config_header(rt: HostRuntime) -> Result<(), Fail> {
     assert_eq!(rt; header.kind, FrameType::Config2);
     assert_eq!(rt; header.version, Version::Y2005);
     assert_eq!(rt; header.size, 454);
-    assert_eq!(rt; header.id.0, 7734);
+    assert_eq!(rt; header.id, IdCode(7734));
     assert_eq!(rt; header.time.soc, 1_149_577_200);
     assert_eq!(rt; header.time.quality, 0x56);
     assert_eq!(rt; header.time.count, 463_000);

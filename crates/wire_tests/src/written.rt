@@ -50,7 +50,7 @@ fn every_type_comes_back(rt: HostRuntime) -> Result<(), Fail> {
         let header = Header::read(&out)?;
         assert_eq!(rt; header.kind, kind);
         assert_eq!(rt; header.version, Version::Y2011);
-        assert_eq!(rt; header.id.0, 65_535);
+        assert_eq!(rt; header.id, IdCode(65_535));
         assert_eq!(rt; header.time.quality, 0x0f);
         let body = match Frame::read(&out)? {
             Frame::Data(body) => {
