@@ -2,6 +2,7 @@
 use crate::bench::Bench;
 use crate::build::{BARE, RATE, line, station};
 use crate::checks::{check_parts, check_stations, read_config};
+use common::IdCode;
 use layout::data_len;
 use std::test::Fail;
 
@@ -14,7 +15,7 @@ fn at_most_eight_stations(rt: HostRuntime) -> Result<(), Fail> {
     assert_eq!(rt; bench.plan.ports().len(), 2);
     // the sender, its stations, and 6 bytes of data for each
     for (record, (id, count)) in bench.plan.ports().iter().zip([(5, 2), (6, 8)]) {
-        assert_eq!(rt; record.id.0, id);
+        assert_eq!(rt; record.id, IdCode(id));
         assert_eq!(rt; record.time_base, 1_000);
         assert_eq!(rt; record.stations.len(), count);
         assert_eq!(rt; data_len(&record.stations), count.saturating_mul(6));

@@ -2,6 +2,7 @@
 use crate::bench::Bench;
 use crate::build::station;
 use crate::checks::{check_stations, read_config};
+use common::IdCode;
 use fields::put_u16;
 use fixtures::{CONFIG, from_hex};
 use layout::data_len;
@@ -16,7 +17,7 @@ fn its_record(rt: HostRuntime) -> Result<(), Fail> {
     assert_eq!(rt; bench.add_frame(frame.as_slice()), 0);
     assert_eq!(rt; bench.plan.ports().len(), 1);
     for record in bench.plan.ports() {
-        assert_eq!(rt; record.id.0, 7734);
+        assert_eq!(rt; record.id, IdCode(7734));
         assert_eq!(rt; record.time_base, 1_000_000);
         check_stations(
             &rt,
