@@ -6,7 +6,7 @@ ghost use Rattle.wire.specs.Frames.{left_by};
 use crate::concentrator::Concentrator;
 use crate::ticket::Ticket;
 use common::{Fault, Port};
-use feed::{Feed, LONGEST_FRAME};
+use feed::{Feed, check_room};
 use policy::Policy;
 
 // A frame that was pulled from the feed: its line, its length, and what became of it.
@@ -32,9 +32,7 @@ impl<F: Feed, P: Policy> Concentrator<F, P> {
         ensures refused { OnErr result (scratch.new ≡ scratch.old) }
     {
         self.engine.check()?;
-        if scratch.len() < LONGEST_FRAME {
-            return Err(Fault::Buffer);
-        }
+        check_room(scratch)?;
         let latest = self.engine.tick(&self.policy, reading)?;
         self.feed.tick(latest, scratch)
     }
@@ -54,9 +52,7 @@ impl<F: Feed, P: Policy> Concentrator<F, P> {
         ensures next { whole self.new ≡ pulled_to (whole self.old) buffer.old }
     {
         self.engine.check()?;
-        if buffer.len() < LONGEST_FRAME {
-            return Err(Fault::Buffer);
-        }
+        check_room(buffer)?;
         self.engine.check_count()?;
         let taken = self.feed.next(buffer)?;
         let frame = &buffer[..taken.len];
