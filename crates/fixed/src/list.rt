@@ -3,7 +3,7 @@ ghost use Rattle.std.specs.Prelude.{◌≡◌, ◌≤◌, ◌==◌, [], length, 
 use std::alloc::AllocError;
 
 // At most `N` items, in their order: the first `count` of an array, behind which filler stands.
-// (a) No call may allocate, so it is no `Vec`; and what holds it is `Copy`, which the kit's `ArrayVec`
+// No call may allocate, so it is no `Vec`; and what holds it is `Copy`, which the kit's `ArrayVec`
 // is not, nor a type whose view forgets a part, as that of an `impl Model` would forget the filler.
 #[derive(Copy)]
 pub struct FixedList<T, const N: usize> {

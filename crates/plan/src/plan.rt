@@ -12,8 +12,8 @@ pub(crate) const BEHIND_PARTS: usize = 4;
 
 // The combined code, the rate in frames per second, and the ports with three sums over them: of
 // stations, of bytes of data body, and of bytes of station parts.
-// (a) No `impl Model`: a view of the ports forgets the table's filler, and so `Copy` would be lost.
-// (d) The sums have no struct of their own, since each call reads one of them, and each has its own limit.
+// No `impl Model`: a view of the ports forgets the table's filler, and so `Copy` would be lost.
+// The sums have no struct of their own, since each call reads one of them, and each has its own limit.
 #[derive(Clone, Copy)]
 pub struct Plan {
     pub(crate) id: IdCode,

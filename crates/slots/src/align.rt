@@ -4,7 +4,8 @@ ghost use Rattle.std.specs.Prelude.{◌≡◌};
 
 use crate::rate::Rate;
 
-// The multiple of the time base that is less than `frames` away, by its number.
+// The multiple of the time base that is less than `frames` away, by its number. The last step is an
+// `if`, since `then_some` would count up in every case, and at the largest number that overflows.
 fn nearest(scaled: u64, time_base: u64, frames: u64) -> Option<u64>
     ensures { result ≡ nearest_of scaled time_base frames }
 {
