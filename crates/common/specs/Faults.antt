@@ -1,5 +1,5 @@
 -- The refusals: the fixed number of each, and what it carries.
-use Rattle.std.specs.Prelude.{ℕ, Some, None, Option}
+use Rattle.std.specs.Prelude.{ℕ, Some, None, Option, Ok, Err, Result}
 use Rattle.common.specs.declared.fault.Fault.{Fault}
 use Rattle.common.specs.declared.fault.Fault.TheVariants as fault
 
@@ -33,6 +33,11 @@ number fault.PlanFull = 27
 number fault.Exhausted = 28
 number fault.WrongTicket = 29
 number fault.NothingWaits = 30
+
+-- the number of a verdict: 0, or the refusal's
+abbrev pub number_in : {A : Type 0} → Result A Fault → ℕ
+number_in (Ok x) = 0
+number_in (Err e) = number e
 
 -- the station of a configuration at which its reading stopped, counted from 0
 abbrev pub station : Fault → Option ℕ

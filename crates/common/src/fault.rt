@@ -1,5 +1,5 @@
-ghost use Rattle.common.specs.Faults.{number as number_of, station as station_of};
-ghost use Rattle.std.specs.Prelude.{◌≡◌};
+ghost use Rattle.common.specs.Faults.{number as number_of, number_in, station as station_of};
+ghost use Rattle.std.specs.Prelude.{◌≡◌, ◌≤◌};
 
 use std::error::Error;
 use std::fmt;
@@ -86,7 +86,7 @@ impl Fault {
         }
     }
 
-    // A few plain words for a person.
+    // A few plain words for a person. By hand: a derive would write each number again in its text.
     fn words(self) -> &'static str {
         match self {
             Fault::Short => "fewer than 16 bytes",
@@ -119,6 +119,14 @@ impl Fault {
             Fault::NothingWaits => "nothing waits",
         }
     }
+}
+
+// The number of a verdict: 0, or the refusal's.
+pub fn verdict_number<T: Drop>(verdict: Result<T, Fault>) -> u8
+    ensures value { result ≡ number_in verdict }
+    ensures few { result ≤ 30 }
+{
+    verdict.err().map_or(0, Fault::number)
 }
 
 impl fmt::Display for Fault {

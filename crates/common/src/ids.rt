@@ -4,7 +4,7 @@ ghost use Rattle.std.specs.Prelude.{◌≡◌, Some};
 
 use std::fmt;
 
-// The number of the line that a frame came in by.
+// The number of the line that a frame came in by. No `From<Port>` for numbers: `port.0` is one already.
 #[derive(Clone, Copy, PartialEq, Eq, Hash, PartialOrd, Ord, Debug)]
 pub struct Port(pub u8);
 
