@@ -1,7 +1,9 @@
 -- Slots at F frames a second: their stamps and tags, and which slot a frame belongs to. Readings and stamps are in microseconds since 1970.
-use Rattle.std.specs.Prelude.{ℕ, ◌+◌, ◌-◌, ◌*◌, ◌/◌, ◌%◌, ◌<◌, Bool, cond, ◌&&◌, Some, None, Option, ◌==◌, nat_le, nat_lt}
-use Rattle.std.specs.Option.{option_map}
+use Rattle.std.specs.Prelude.{ℕ, ◌+◌, ◌-◌, ◌*◌, ◌/◌, ◌%◌, ◌<◌, Bool, cond, ◌&&◌, Some, None, Option, Err, Result, ◌==◌, nat_le, nat_lt}
+use Rattle.std.specs.Option.{ok_or, option_map}
 use Rattle.std.specs.Bool.{then_some}
+use Rattle.common.specs.declared.fault.Fault.{Fault}
+use Rattle.common.specs.declared.fault.Fault.TheVariants as fault
 use Rattle.slots.specs.declared.rate.Rate.{Rate}
 
 -- the frames a second of a rate
@@ -55,6 +57,10 @@ place_of F TB f = in_second F (nearest (f * F) TB F)
 -- the slot of a frame with a SOC and a count, from a sender with time base TB
 abbrev pub slot_of : ℕ → ℕ → ℕ → ℕ → Option ℕ
 slot_of F TB soc f = option_map (λ k. soc * F + k) (place_of F TB f)
+
+-- the slot of such a frame, or its refusal: its count has to be below the time base, and of a slot
+abbrev pub slot_due : ℕ → ℕ → ℕ → ℕ → Result ℕ Fault
+slot_due F TB soc f = cond (nat_lt f TB) (ok_or (slot_of F TB soc f) fault.NoSlot) (Err fault.Count)
 
 -- whether no more than 32 slots are open at once, under a wait of at most W
 abbrev pub window_fits : ℕ → ℕ → Bool

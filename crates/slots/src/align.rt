@@ -1,11 +1,12 @@
 ghost use Rattle.slots.specs.Laws.{BelongsAligns, AlignedBelongs, OwnTime, UniquePlace, WorkedSlots};
-ghost use Rattle.slots.specs.Slots.{frames_of, nearest as nearest_of, place_of, slot_of};
+ghost use Rattle.slots.specs.Slots.{frames_of, nearest as nearest_of, place_of, slot_due, slot_of};
 ghost use Rattle.std.specs.Prelude.{◌≡◌};
 
 use crate::rate::Rate;
+use common::Fault;
 
 // The multiple of the time base that is less than `frames` away, by its number. The last step is an
-// `if`, since `then_some` would count up in every case, and at the largest number that overflows.
+// `if`, as `then` with a closure says no more.
 fn nearest(scaled: u64, time_base: u64, frames: u64) -> Option<u64>
     ensures { result ≡ nearest_of scaled time_base frames }
 {
@@ -37,5 +38,15 @@ impl Rate {
     {
         let k = self.place(time_base, count)?;
         Some(u64::from(soc) * self.frames + k)
+    }
+
+    // The slot of such a frame, or why it has none: its count is not below the time base, or of no slot.
+    pub fn slot_due(self, time_base: u32, soc: u32, count: u32) -> Result<u64, Fault>
+        ensures { result ≡ slot_due (frames_of self) time_base soc count }
+    {
+        if count >= time_base {
+            return Err(Fault::Count);
+        }
+        self.slot_of(time_base, soc, count).ok_or(Fault::NoSlot)
     }
 }

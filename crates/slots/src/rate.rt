@@ -28,6 +28,7 @@ impl Rate {
     pub fn frames(self) -> u16
         ensures { result ≡ frames_of self }
     {
+        // A rate has at most 120 frames a second: `try_from` would add a case that never comes.
         self.frames as u16
     }
 }

@@ -31,6 +31,7 @@ impl Rate {
     pub fn slot_count(self, slot: u64) -> u32
         ensures { result ≡ count_of (frames_of self) slot }
     {
+        // A count is below a second's millionths: `try_from` would add a case that never comes.
         (slot % self.frames * SECOND / self.frames) as u32
     }
 

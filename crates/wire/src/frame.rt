@@ -19,10 +19,9 @@ fn is_checked(bytes: &[u8]) -> bool
     requires { 16 ≤ length bytes.now }
     ensures { result ≡ checks bytes.now }
 {
-    match bytes.split_last_chunk() {
-        Some((rest, check)) => check_word(rest) == u16::from_be_bytes(*check),
-        None => false,
-    }
+    bytes.split_last_chunk().is_some_and(|(rest, check)| {
+        check_word(rest) == u16::from_be_bytes(*check)
+    })
 }
 
 impl<'a> Frame<'a> {

@@ -11,4 +11,4 @@ mod write;
 pub use frame::Frame;
 pub use header::{Header, TimeTag};
 pub use kind::{FrameType, Version};
-pub use write::{seal, write_frame};
+pub use write::{OVERHEAD, seal, write_frame};

@@ -8,7 +8,7 @@ use common::{Fault, IdCode};
 use crc::check_word;
 
 // Bytes of a frame besides its body.
-const OVERHEAD: usize = 16;
+pub const OVERHEAD: usize = 16;
 
 // Makes the last two bytes of a frame the check word of those before; fewer than two stay as they are.
 pub fn seal(frame: &mut [u8])
