@@ -1,14 +1,10 @@
 ghost use Rattle.capture.specs.Records.{limited};
 ghost use Rattle.std.specs.Prelude.{◌≡◌};
 
-// The highest reading of a record.
-const LAST_READING: u64 = 4_000_000_000_000_000;
+use common::{LAST_READING, LONGEST_FRAME};
 
 // The highest number of a line.
 const LAST_PORT: u8 = 15;
-
-// The most bytes that a recorded frame has.
-const LONGEST_FRAME: u16 = 1040;
 
 // Whether a record may stand behind one with the reading `low`.
 pub(crate) fn within_limits(low: u64, reading: u64, port: u8, len: u16) -> bool
@@ -16,5 +12,5 @@ pub(crate) fn within_limits(low: u64, reading: u64, port: u8, len: u16) -> bool
 {
     (low..=LAST_READING).contains(&reading)
         && port <= LAST_PORT
-        && (1..=LONGEST_FRAME).contains(&len)
+        && (1..=LONGEST_FRAME).contains(&usize::from(len))
 }

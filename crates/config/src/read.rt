@@ -71,6 +71,7 @@ fn read_stations(parts: &[u8], count: u16) -> Result<Stations, Fault>
     ensures { listed_by result ≡ stations_in count 0 parts.now }
 {
     let mut stations = no_stations();
+    // Where a part ends stands in the part, so the rest is cut step by step.
     let mut rest = parts;
     for k in 0..count {
         let station = Station::read(rest, k)?;

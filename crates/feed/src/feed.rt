@@ -2,10 +2,7 @@ ghost use Rattle.feed.specs.Calls.{next_buffer, next_left, next_said, short, tic
 ghost use Rattle.feed.specs.Feeds.{Meaning};
 ghost use Rattle.std.specs.Prelude.{◌≡◌, true, []};
 
-use common::{Fault, Port};
-
-// The most bytes that a frame of a feed has, and so the fewest that a lent buffer may have.
-pub const LONGEST_FRAME: usize = 1040;
+use common::{Fault, LONGEST_FRAME, Port};
 
 // Refuses a buffer that is shorter than the longest frame.
 pub fn check_room(buffer: &[u8]) -> Result<(), Fault>
@@ -17,7 +14,8 @@ pub fn check_room(buffer: &[u8]) -> Result<(), Fault>
     Ok(())
 }
 
-// A frame that was taken off a feed: the line it came in by, and how many bytes it has.
+// A frame that was taken off a feed: the line it came in by, and how many bytes it has. A length, as
+// the library's `read` answers: a lent front would keep the buffer.
 #[derive(Clone, Copy, PartialEq, Eq, Debug)]
 pub struct Taken {
     pub port: Port,

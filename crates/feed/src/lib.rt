@@ -6,7 +6,8 @@ mod joined;
 mod mapped;
 mod silent;
 
-pub use feed::{Feed, LONGEST_FRAME, Taken, check_room};
+pub use common::LONGEST_FRAME;
+pub use feed::{Feed, Taken, check_room};
 pub use joined::Joined;
 pub use mapped::{FrameMap, Mapped};
 pub use silent::Silent;

@@ -28,7 +28,8 @@ impl<'a> Recorded<'a> {
     }
 }
 
-// No call changes whether the capture is sound. A method with a clause of its own repeats those of its trait.
+// No call changes whether the capture is sound: `check` answers it at any time, and so each call says that
+// it stays. A method with a clause of its own repeats those of its trait.
 impl<'a> Feed for Recorded<'a> {
     ghost meaning = { λ s. meaning_of s };
 
