@@ -49,9 +49,8 @@ impl Policy for Relative {
     fn closes_at(&self, stamp: u64, arrival: Option<u64>) -> u64 {
         let stamp = stamp.min(LATEST_READING);
         let latest = stamp + self.wait;
-        match arrival {
-            Some(first) => latest.min(stamp.max(first.min(LATEST_READING)) + self.after_arrival),
-            None => latest,
-        }
+        arrival.map_or(latest, |first| {
+            latest.min(stamp.max(first.min(LATEST_READING)) + self.after_arrival)
+        })
     }
 }
