@@ -7,16 +7,13 @@ use crate::plan::{BEHIND_PARTS, PARTS_AT, Plan};
 use crate::record::Record;
 use crate::request::Request;
 use crate::table::no_ports;
-use common::{Fault, IdCode, Port};
+use common::{Fault, IdCode, LONGEST_BODY, Port};
 use config::{Config, MOST_STATIONS};
 use layout::data_len;
 use wire::{Frame, Header};
 
 // The most stations that one line may bring.
 const MOST_STATIONS_A_LINE: u16 = 8;
-
-// The longest data body of a plan.
-const LONGEST_BODY: usize = 1024;
 
 // The record that a configuration's body asks for, of the sender `id`, at a rate.
 fn read_body(body: &[u8], id: IdCode, rate: u16) -> Result<Record, Fault>
@@ -116,6 +113,7 @@ impl Plan {
         self.stations += request.port.stations.len();
         self.body += data_len(&request.port.stations);
         self.parts += request.parts.len();
+        // A plan has at most 16 ports: `try_from` would add a case that never comes.
         Port(number as u8)
     }
 

@@ -37,6 +37,7 @@ impl Plan {
     {
         self.ports().iter().enumerate().find_map(|(number, port)| {
             let station = position(port.stations.as_slice(), id)?;
+            // A plan has at most 16 ports: `try_from` would add a case that never comes.
             let port = Port(number as u8);
             Some(Place { port, station })
         })

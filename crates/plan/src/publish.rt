@@ -6,11 +6,8 @@ ghost use Rattle.plan.specs.Views.{plan_of};
 ghost use Rattle.wire.specs.Frames.{left_by};
 
 use crate::plan::{BEHIND_PARTS, PARTS_AT, Plan};
-use common::Fault;
+use common::{Fault, LAST_READING};
 use wire::{FrameType, Header, TimeTag, Version, seal};
-
-// The highest reading of the clock, in microseconds since 1970.
-const LAST_READING: u64 = 4_000_000_000_000_000;
 
 // The time base of the combined stream: microseconds.
 const TIME_BASE: u32 = 1_000_000;
@@ -31,6 +28,7 @@ impl Plan {
         ensures { buffer.new ≡ over (published_frame (plan_of self.now) reading buffer.old) buffer.old }
     {
         let size = self.published_len();
+        // The plan and the reading are limited: for each `as`, `try_from` would add a case that never comes.
         let header = Header {
             kind: FrameType::Config2,
             version: Version::Y2011,
