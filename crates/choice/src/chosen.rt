@@ -3,8 +3,8 @@ ghost use Rattle.std.specs.Prelude.{◌≡◌};
 
 use policy::Policy;
 
-// The one of two policies that was chosen. It is an own enum, since a type of another crate could be a
-// `Policy` only in the crate of that trait.
+// The one of two policies that was chosen. An own enum and not `either::Either`: only the crate `policy`,
+// which needs no other crate, could make that one a `Policy`.
 #[derive(Clone, Copy, Drop)]
 pub enum Chosen<A, B> {
     One(A),

@@ -1,5 +1,4 @@
 pub mod Judged
-pub mod Slot
 pub mod Lines
 pub mod Builds
 pub mod Waits
