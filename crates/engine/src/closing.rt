@@ -8,7 +8,7 @@ use crate::engine::Engine;
 use policy::Policy;
 
 // How far past the latest reading the stamp of a frame's slot may be, in microseconds.
-pub(crate) const EARLIEST: u64 = 100_000;
+pub const EARLIEST: u64 = 100_000;
 
 impl Engine {
     // Whether the slot's closing reading has come.
@@ -21,6 +21,7 @@ impl Engine {
 
     // Where the front stands once all up to the highest ripe slot is closed. Slots whose bound has passed are all ripe, and at most 32
     // have a stamp that has come and a bound that has not, so the policy is asked at most 33 times.
+    // The limit depends on the rate, so a type for it would hold the rate too.
     fn past_ripe<P: Policy>(&self, policy: &P) -> u64
         ensures value { result ≡ past_ripe_of (P.closing policy.now) (setting_of self.now) (box_of self.now) }
         ensures near { result ≤ slot_limit (setting_of self.now).rate }

@@ -20,6 +20,7 @@ pub struct Engine {
     pub(crate) written: u64,
     pub(crate) ticket_out: bool,
     pub(crate) judged: u64,
+    // Arrays, since no call may allocate.
     pub(crate) tally: [u64; VERDICTS],
     pub(crate) ring: [Cell; SLOTS],
     ghost time: { latest ≤ last_reading },

@@ -14,4 +14,6 @@ mod terms;
 mod tick;
 mod write;
 
+pub use closing::EARLIEST;
 pub use engine::Engine;
+pub use tick::LONGEST_STEP;

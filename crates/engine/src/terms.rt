@@ -6,6 +6,8 @@ use slots::Rate;
 // No enum of open and shut: each call of a shut engine ends at `check`, and each use of the rest would be a match.
 #[derive(Clone, Copy)]
 pub struct Terms {
+    // Why it is shut, if it is. The plan is then the refused one, and the rate 1 and the first slot 0 are fillers:
+    // no call reads any of them.
     pub(crate) shut: Option<Fault>,
     pub(crate) plan: Plan,
     pub(crate) rate: Rate,

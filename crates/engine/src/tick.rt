@@ -10,7 +10,7 @@ use policy::Policy;
 pub(crate) const LAST_READING: u64 = 4_000_000_000_000_000;
 
 // How far past the latest reading a tick may be, in microseconds.
-const LONGEST_STEP: u64 = 60_000_000;
+pub const LONGEST_STEP: u64 = 60_000_000;
 
 impl Engine {
     // Why the engine is shut, if it is.
