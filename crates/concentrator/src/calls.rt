@@ -1,6 +1,6 @@
 ghost use Rattle.concentrator.specs.Calls.{admit_said, admitted, frame_of, length_by, lent, number_by, pull_buffer, pull_said, pulled as pulled_to, take_said, tick_said, ticked, write_said, wrote};
 ghost use Rattle.concentrator.specs.Wholes.{whole};
-ghost use Rattle.std.specs.Prelude.{◌≡◌, length, OnErr};
+ghost use Rattle.std.specs.Prelude.{◌≡◌, ◌≤◌, length, IfOk, OnErr};
 ghost use Rattle.wire.specs.Frames.{left_by};
 
 use crate::concentrator::Concentrator;
@@ -10,6 +10,7 @@ use feed::{Feed, check_room};
 use policy::Policy;
 
 // A frame that was pulled from the feed: its line, its length, and what became of it.
+// Its own fields, so that a host needs no type of a feed.
 #[derive(Clone, Copy)]
 pub struct Pulled {
     pub port: Port,
@@ -48,6 +49,7 @@ impl<F: Feed, P: Policy> Concentrator<F, P> {
     // Takes the next frame of the feed, which is left at the buffer's front, and judges it.
     pub fn pull(&mut self, buffer: &mut [u8]) -> Result<Pulled, Fault>
         ensures answer { result ≡ pull_said (whole self.old) buffer.old }
+        ensures fits { IfOk result (λ p. p.len ≤ length buffer.old) }
         ensures frame { buffer.new ≡ pull_buffer (whole self.old) buffer.old }
         ensures next { whole self.new ≡ pulled_to (whole self.old) buffer.old }
     {
@@ -76,6 +78,7 @@ impl<F: Feed, P: Policy> Concentrator<F, P> {
     // Writes the slot of the ticket, which is spent in every case, to the buffer's front.
     pub fn write(&mut self, ticket: Ticket, out: &mut [u8]) -> Result<Written, Fault>
         ensures answer { length_by result ≡ write_said (whole self.old) ticket.number (length out.old) }
+        ensures fits { IfOk result (λ w. w.len ≤ length out.old) }
         ensures frame { out.new ≡ left_by (length_by result) (frame_of (whole self.old) ticket.number) out.old }
         ensures next { whole self.new ≡ wrote (whole self.old) ticket.number (length out.old) }
     {

@@ -8,4 +8,5 @@ mod ticket;
 
 pub use calls::{Pulled, Written};
 pub use concentrator::Concentrator;
+pub use engine::{EARLIEST, LONGEST_STEP};
 pub use ticket::Ticket;

@@ -1,4 +1,7 @@
-use Rattle.std.proofs.Common.{◌≡◌, false, sym}
+use Rattle.std.proofs.Common.{◌≡◌, ◌≤◌, false, [], ◌∷◌, length, sym, ap, subst, arith, ltb-false}
+use Rattle.feed.specs.declared.feed.Taken.{Taken}
+use Rattle.feed.specs.Feeds.{AllCarried}
+use Rattle.feed.proofs.Nexts.{came}
 use Rattle.engine.specs.Calls.{exhausted}
 use Rattle.engine.specs.Views.{box_of, state_of}
 use Rattle.engine.proofs.Judged.{stopped}
@@ -20,4 +23,9 @@ returns g c =
     let p =
     pull_steps (state_of e) (state_of c.admit-verdict.new.self) close m m' o c.args.buffer.now c.next.new.buffer c.in_ok-taken.taken
     c.admit-verdict.result few (record { answer = n.answer; frame = n.frame; left = n.left }) a.answer a.next in
-    record { answer = p.answer; frame = p.frame; next = p.after }
+    let t = came (m []) c.args.buffer.now c.in_ok-taken.taken n.answer in
+    let all : AllCarried (t.first ∷ t.others) = subst AllCarried t.waited ((g.F.Feed.meaning s.feed).lawful.carried []) in
+    let few : length t.first.bytes ≤ 1040 = all.0.few in
+    let room : 1040 ≤ length c.args.buffer.now = ltb-false (length c.args.buffer.now) 1040 t.room in
+    let len : c.in_ok-taken.taken.len ≡ length t.first.bytes = ap (λ (x : Taken). x.len) t.told in
+    record { answer = p.answer; fits = omega (arith, few, room, len); frame = p.frame; next = p.after }
