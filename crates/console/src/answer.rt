@@ -1,5 +1,5 @@
 use crate::bytes::Hex;
-use common::{Fault, Port};
+use common::{Fault, Port, verdict_number};
 use plan::Place;
 use std::fmt;
 
@@ -17,11 +17,6 @@ pub enum Answer<'a> {
     },
     Taken(u64),
     Written(&'a [u8]),
-}
-
-// The number of a verdict, 0 if the frame was accepted.
-fn number(verdict: Result<(), Fault>) -> u8 {
-    verdict.err().map_or(0, |fault| fault.number())
 }
 
 impl fmt::Display for Answer<'_> {
@@ -43,7 +38,7 @@ impl fmt::Display for Answer<'_> {
                     f,
                     "0 {port} {} {} {}",
                     frame.len(),
-                    number(verdict),
+                    verdict_number(verdict),
                     Hex(frame)
                 )
             }

@@ -2,7 +2,7 @@
 use Rattle.std.specs.Prelude.{◌≡◌, ℕ, suc, ◌+◌, ◌<◌, max, Bool, false, cond, not, ◌&&◌, ◌||◌, List, length, is_some, Some, None, Ok, Err, Option, Result, ◌==◌, nat_le, nat_lt}
 use Rattle.common.specs.declared.fault.Fault.{Fault}
 use Rattle.common.specs.declared.fault.Fault.TheVariants as fault
-use Rattle.common.specs.Faults.{number}
+use Rattle.common.specs.Faults.{number_in}
 use Rattle.slots.specs.Slots.{first_slot, window_fits}
 use Rattle.plan.specs.Plans.{PlanOf}
 use Rattle.sample.specs.Samples.{SampleOf, sample_of}
@@ -95,8 +95,7 @@ verdict_of (Err e) = Err e
 
 -- the number of a verdict: 0 for accepted
 abbrev pub verdict_number_of : Result Unit Fault → ℕ
-verdict_number_of (Ok u) = 0
-verdict_number_of (Err e) = number e
+verdict_number_of r = number_in r
 
 abbrev pub one : Bool → ℕ
 one b = cond b 1 0

@@ -1,4 +1,4 @@
-ghost use Rattle.std.specs.Prelude.{◌≡◌, ◌<◌, ◌≤◌, if◌then◌else◌, Ok, Err};
+ghost use Rattle.std.specs.Prelude.{◌≡◌, ◌<◌, if◌then◌else◌, Ok, Err};
 ghost use Rattle.engine.specs.Calls.{counted, exhausted, judge as judge_of, placed, verdict_number_of, verdict_of};
 ghost use Rattle.engine.specs.Limits.{most_frames};
 ghost use Rattle.engine.specs.States.{admit_said, admitted, with_box};
@@ -6,7 +6,7 @@ ghost use Rattle.engine.specs.Views.{box_of, setting_of, state_of};
 ghost use Rattle.common.specs.declared.fault.Fault.TheVariants.{Exhausted};
 
 use crate::engine::Engine;
-use common::{Fault, Port};
+use common::{Fault, Port, verdict_number};
 use policy::Policy;
 
 // How many frames are judged at most.
@@ -14,14 +14,6 @@ const MOST_FRAMES: u64 = 1_000_000_000_000_000;
 
 // How many numbers a verdict can have: 0 for accepted, and those of the refusals.
 pub(crate) const VERDICTS: usize = 31;
-
-// The number of a verdict: 0 for accepted.
-fn verdict_number(verdict: Result<(), Fault>) -> u8
-    ensures value { result ≡ verdict_number_of verdict }
-    ensures few { result ≤ 30 }
-{
-    verdict.err().map_or(0, Fault::number)
-}
 
 impl Engine {
     // Whether one frame more may be judged.

@@ -3,11 +3,8 @@ ghost use Rattle.engine.specs.Views.{state_of};
 ghost use Rattle.std.specs.Prelude.{◌≡◌};
 
 use crate::engine::Engine;
-use common::Fault;
+use common::{Fault, LAST_READING};
 use policy::Policy;
-
-// The highest reading of the clock, in microseconds since 1970.
-pub(crate) const LAST_READING: u64 = 4_000_000_000_000_000;
 
 // How far past the latest reading a tick may be, in microseconds.
 pub const LONGEST_STEP: u64 = 60_000_000;
