@@ -53,7 +53,7 @@ impl Build {
     }
 }
 
-// The last reading, or 0 where there is no record.
+// The last reading, or 0 where there is no record: any reading does then, since no port is filled.
 fn last_reading(records: &[Record]) -> u64
     ensures { result ≡ last_reading_of records.now }
 {
@@ -95,6 +95,7 @@ impl Build {
         ensures combined { IfOk result (λ b. bytes_by b.combined ≡ published (after_lines records.now 16) (last_reading_of records.now)) }
     {
         let mut buffer = vec![in alloc; 0; ROOM]?;
+        // where no line has a configuration the rate is 0: it is printed like any other, and no slot comes of it
         let mut plan = Plan::begin(COMBINED, first_rate(records).unwrap_or(0));
         let mut lines = Vec::new(alloc);
         for line in 0..LINES {

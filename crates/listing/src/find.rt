@@ -23,7 +23,7 @@ pub(crate) fn first_config<'a>(records: &[Record<'a>], line: Port) -> Option<Rec
 {
     records
         .iter()
-        .find(|record| record.port.0 == line.0 && is_config(record.frame))
+        .find(|record| record.port == line && is_config(record.frame))
         .copied()
 }
 
@@ -31,7 +31,7 @@ pub(crate) fn first_config<'a>(records: &[Record<'a>], line: Port) -> Option<Rec
 pub(crate) fn is_used(records: &[Record], line: Port) -> bool
     ensures { result ≡ used records.now line.0 }
 {
-    records.iter().any(|record| record.port.0 == line.0)
+    records.iter().any(|record| record.port == line)
 }
 
 // DATA_RATE, the last field of a configuration.
@@ -45,6 +45,7 @@ fn rate_in(frame: &[u8]) -> Option<u16>
 pub(crate) fn first_rate(records: &[Record]) -> Option<u16>
     ensures { result ≡ rate_of records.now }
 {
+    // a loop: the proof of a `find_map` over the lines did not find which line each of its calls was made with
     let mut lowest = None;
     for line in 0..LINES {
         lowest = lowest.or(first_config(records, Port(line)));

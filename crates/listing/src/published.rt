@@ -5,25 +5,24 @@ use fields::u16_at;
 use std::io;
 use wire::Frame;
 
-// What a published configuration says when it is read like any other, with up to 32 stations.
-fn read_back(frame: &[u8]) -> Result<Config, Fault> {
-    match Frame::read(frame)? {
-        Frame::Config2(body) => Config::read(body, 32),
-        _ => Err(Fault::FrameType),
-    }
+// What a published configuration says when it is read like any other, with up to 32 stations, and its
+// check word.
+fn read_back(frame: &[u8]) -> Result<(Config, u16), Fault> {
+    let config = Config::read(Frame::read(frame)?.config2()?, 32)?;
+    let check = u16_at(frame, frame.len().saturating_sub(2)).ok_or(Fault::Short)?;
+    Ok((config, check))
 }
 
 // Length, stations and check word of a published configuration, and what reads back from it.
 fn show_frame(rt: &impl Print, frame: &[u8]) -> io::Result<()> {
-    let config = match read_back(frame) {
-        Ok(config) => config,
+    let (config, check) = match read_back(frame) {
+        Ok(read) => read,
         Err(fault) => {
             return println!(rt; "combined configuration does not read back: {fault}");
         }
     };
     let size = frame.len();
     let stations = config.stations.len();
-    let check = u16_at(frame, size.saturating_sub(2)).unwrap_or(0);
     println!(rt;
         "combined configuration: {size} bytes, {stations} stations, check word {check:04x}h"
     )?;

@@ -9,7 +9,7 @@ pub(crate) struct Totals {
     data_frames: u32,
     configurations: u32,
     others: u32,
-    // by the number of the refusal
+    // by the number of the refusal, of which the highest is 30: an array needs no heap, as a map would
     refused: [u32; 31],
 }
 
