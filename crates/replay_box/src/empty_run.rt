@@ -6,17 +6,14 @@ use std::fmt;
 pub struct EmptyRun {
     first: SlotLine,
     last: u64,
-    slots: u64,
 }
 
 impl EmptyRun {
     // The run with one slot more, or one that it begins.
     pub fn with(run: Option<EmptyRun>, line: SlotLine) -> EmptyRun {
-        let (first, slots) = run.map_or((line, 0), |run| (run.first, run.slots));
         EmptyRun {
-            first,
+            first: run.map_or(line, |run| run.first),
             last: line.slot,
-            slots: slots.saturating_add(1),
         }
     }
 }
@@ -26,11 +23,10 @@ impl fmt::Display for EmptyRun {
         let line = self.first;
         let first = line.slot;
         let last = self.last;
-        let slots = self.slots;
-        if slots == 1 {
-            write!(f, "{line}")
-        } else {
-            write!(f, "slots {first} to {last}: {slots} slots with no port")
+        if first == last {
+            return write!(f, "{line}");
         }
+        let slots = last.saturating_sub(first).saturating_add(1);
+        write!(f, "slots {first} to {last}: {slots} slots with no port")
     }
 }

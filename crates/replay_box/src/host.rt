@@ -78,6 +78,7 @@ impl<'a> Host<'a> {
 
     // Takes and writes all slots that are closed.
     fn write_closed(&mut self, rt: &impl Print) -> anyhow::Result<()> {
+        // counted: a `while let` has to be proved to end, by following the closed slots through `take` and `write`
         for _ in 0..MOST_CLOSED {
             let Ok(ticket) = self.concentrator.take() else {
                 break;

@@ -50,6 +50,7 @@ fn replay(
         Output::Hex => print_combined(rt, &build)?,
     }
     let report = Report::new(rt, options.output);
+    // with no record any reading does, since the plan then has no port
     let first = records.first().map_or(0, |record| record.reading);
     let mut host = Host::open(&build, bytes, first, options.waits.policy(), report);
     host.play(rt, records)

@@ -4,6 +4,7 @@ use std::fmt;
 // The ports that have a frame in a slot.
 #[derive(Clone, Copy)]
 pub struct Present {
+    // by port: an array needs no heap, as a set would
     ports: [bool; 16],
 }
 

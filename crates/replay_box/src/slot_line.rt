@@ -20,13 +20,13 @@ impl SlotLine {
     pub fn read(slot: u64, present: Present, frame: &[u8]) -> Result<SlotLine, Fault> {
         let header = judge(frame)?;
         let len = frame.len();
-        let check = u16_at(frame, len.saturating_sub(2));
+        let check = u16_at(frame, len.saturating_sub(2)).ok_or(Fault::Short)?;
         Ok(SlotLine {
             slot,
             present,
             time: header.time,
             len,
-            check: check.unwrap_or(0),
+            check,
         })
     }
 }

@@ -9,7 +9,8 @@ use listing::Outcome;
 const HIGHEST: u8 = 15;
 
 // The port that a line is led to: the one that it fills, and else the highest number, which is then no
-// port of the plan, so that the line's frames are refused.
+// port of the plan, so that the line's frames are refused. `Taken` has a port and no Option, so a line
+// that fills none needs a number of no port.
 fn port_of(lines: &[Outcome], line: Port) -> Port
     ensures { result.0 ≡ port_at lines.now line.0 }
 {
