@@ -6,7 +6,7 @@ use std::test::Fail;
 
 const LAST: u64 = 4_000_000_000_000_000;
 
-// The number of records, or that of the refusal with 100 added.
+// The number of records. A refusal's number and 100 more, so that one column tells both.
 fn outcome(bytes: &[u8]) -> usize {
     match Capture::open(bytes) {
         Ok(capture) => count_records(capture),

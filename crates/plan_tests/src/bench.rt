@@ -19,7 +19,7 @@ impl Bench {
         Ok(Bench { heap, plan, buffer })
     }
 
-    // Adds a frame: the number of its port, or that of the refusal with 100 added.
+    // Adds a frame: the number of its port. A refusal's number and 100 more, so that one column tells both.
     pub(crate) fn add_frame(&mut self, frame: &[u8]) -> u8 {
         match self.plan.add(frame, self.buffer.as_mut_slice()) {
             Ok(port) => port.0,
