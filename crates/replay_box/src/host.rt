@@ -5,18 +5,12 @@ use anyhow::{Context, bail};
 use capture::Record;
 use choice::Simple;
 use common::Port;
-use concentrator::{Concentrator, Ticket};
+use concentrator::{Concentrator, EARLIEST, LONGEST_STEP, Ticket};
 use feed::LONGEST_FRAME;
 use listing::Build;
 use plan::Plan;
 use policy::Policy;
 use recorded::Recorded;
-
-// How far a tick may leap ahead, in microseconds.
-const LONGEST_STEP: usize = 60_000_000;
-
-// How far the stamp of an accepted frame may be ahead of the clock, in microseconds.
-const EARLIEST: u64 = 100_000;
 
 // The longest time without a record that is played, in microseconds: a day.
 const LONGEST_GAP: u64 = 86_400_000_000;
@@ -34,13 +28,6 @@ pub struct Host<'a> {
     clock: u64,
     wait: u64,
     report: Report,
-}
-
-// The front of a buffer, or all of it where it is shorter. What the calls promise of a length they
-// say by their model and not as a bound, so a slice by it alone is no plainer.
-fn front(buffer: &[u8], len: usize) -> &[u8] {
-    let end = len.min(buffer.len());
-    &buffer[0..end]
 }
 
 impl<'a> Host<'a> {
@@ -73,7 +60,7 @@ impl<'a> Host<'a> {
             .concentrator
             .write(ticket, &mut out)
             .context("refused")?;
-        self.report.written(rt, slot, front(&out, written.len))
+        self.report.written(rt, slot, &out[..written.len])
     }
 
     // Takes and writes all slots that are closed.
@@ -102,7 +89,7 @@ impl<'a> Host<'a> {
         if reading.saturating_sub(self.clock) > LONGEST_GAP {
             bail!("more than a day lies between two readings of the capture");
         }
-        for clock in (self.clock..reading).step_by(LONGEST_STEP).skip(1) {
+        for clock in (self.clock..reading).step_by(LONGEST_STEP as usize).skip(1) {
             self.tick(rt, clock)?;
         }
         self.clock = reading;
@@ -116,7 +103,7 @@ impl<'a> Host<'a> {
         if let Err(fault) = pulled.verdict {
             return self.report.refused(rt, number, line, fault);
         }
-        let slot = slot_of(self.plan, pulled.port, front(&buffer, pulled.len)).context("refused")?;
+        let slot = slot_of(self.plan, pulled.port, &buffer[..pulled.len]).context("refused")?;
         self.report.accepted(slot, pulled.port)
     }
 
