@@ -13,7 +13,7 @@ pub fn bytes_of(heap: Global, word: &str) -> Result<Vec<u8>, Reason> {
     Ok(hex::decode(heap, word)?)
 }
 
-// Bytes, shown as such a word.
+// Bytes, shown as such a word. `hex::encode` needs the heap, which `fmt` is not lent.
 #[derive(Clone, Copy)]
 pub struct Hex<'a>(pub &'a [u8]);
 

@@ -42,7 +42,7 @@ pub enum Call {
 }
 
 // The call on a box of that name.
-fn read_box_call(heap: Global, name: &str, words: &mut Words) -> Result<BoxCall, Reason> {
+fn read_box_call(name: &str, words: &mut Words) -> Result<BoxCall, Reason> {
     match name {
         "tick" => Ok(BoxCall::Tick {
             reading: words.number()?,
@@ -50,7 +50,7 @@ fn read_box_call(heap: Global, name: &str, words: &mut Words) -> Result<BoxCall,
         }),
         "admit" => Ok(BoxCall::Admit {
             port: words.port()?,
-            frame: words.bytes(heap)?,
+            frame: words.bytes()?,
         }),
         "pull" => Ok(BoxCall::Pull {
             room: words.room()?,
@@ -65,14 +65,14 @@ fn read_box_call(heap: Global, name: &str, words: &mut Words) -> Result<BoxCall,
 }
 
 // The call at the front of the words.
-fn read_call(heap: Global, words: &mut Words) -> Result<Call, Reason> {
+fn read_call(words: &mut Words) -> Result<Call, Reason> {
     match words.next()? {
         "plan" => Ok(Call::Plan {
             id: words.id()?,
             rate: words.rate()?,
         }),
         "add" => Ok(Call::Add {
-            frame: words.bytes(heap)?,
+            frame: words.bytes()?,
             room: words.room()?,
         }),
         "publish" => Ok(Call::Publish {
@@ -82,18 +82,18 @@ fn read_call(heap: Global, words: &mut Words) -> Result<Call, Reason> {
         "find" => Ok(Call::Find { id: words.id()? }),
         "open" => Ok(Call::Open {
             policy: read_policy(words)?,
-            source: Source::read(heap, words)?,
+            source: Source::read(words)?,
             reading: words.number()?,
         }),
-        name => Ok(Call::OnBox(read_box_call(heap, name, words)?)),
+        name => Ok(Call::OnBox(read_box_call(name, words)?)),
     }
 }
 
 impl Call {
     // The call that a whole line gives.
     pub fn read(heap: Global, line: &str) -> Result<Call, Reason> {
-        let mut words = Words::of(line);
-        let call = read_call(heap, &mut words)?;
+        let mut words = Words::of(heap, line);
+        let call = read_call(&mut words)?;
         words.end()?;
         Ok(call)
     }

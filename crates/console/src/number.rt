@@ -28,8 +28,5 @@ pub fn sixteen(word: &str) -> Result<[i32; 16], Reason> {
     for number in &mut numbers {
         *number = signed(words.next().ok_or(Reason::NoShifts)?)?;
     }
-    match words.next() {
-        Some(_) => Err(Reason::NoShifts),
-        None => Ok(numbers),
-    }
+    words.next().map_or(Ok(numbers), |_| Err(Reason::NoShifts))
 }

@@ -31,7 +31,8 @@ pub enum Reason {
     NoMemory(#[from(alloc)] AllocError),
 }
 
-// By hand, since no one error is behind every number out of range, every wrong digit, or every missing byte.
+// These three stand by hand, since `#[from]` gives each error a case of its own: a number out of range
+// comes of two errors, and a number or a hex text fails for two reasons.
 impl From<TryFromIntError> for Reason {
     fn from(_error: TryFromIntError) -> Reason {
         Reason::OutOfRange

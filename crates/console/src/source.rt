@@ -4,7 +4,6 @@ use choice::{AnyFeed, AnyPolicy, Simple};
 use policy::{Absolute, Relative, Sooner};
 use recorded::Recorded;
 use shift::Shifts;
-use std::alloc::Global;
 
 // Where a box gets its frames from: the bytes of captures, if any, and what is done with them.
 #[derive(Drop)]
@@ -16,12 +15,12 @@ pub enum Source {
 }
 
 impl Source {
-    pub fn read(heap: Global, words: &mut Words) -> Result<Source, Reason> {
+    pub fn read(words: &mut Words) -> Result<Source, Reason> {
         match words.next()? {
             "silent" => Ok(Source::Silent),
-            "capture" => Ok(Source::Capture(words.bytes(heap)?)),
-            "joined" => Ok(Source::Joined(words.bytes(heap)?, words.bytes(heap)?)),
-            "shifted" => Ok(Source::Shifted(words.shifts()?, words.bytes(heap)?)),
+            "capture" => Ok(Source::Capture(words.bytes()?)),
+            "joined" => Ok(Source::Joined(words.bytes()?, words.bytes()?)),
+            "shifted" => Ok(Source::Shifted(words.shifts()?, words.bytes()?)),
             _ => Err(Reason::UnknownFeed),
         }
     }

@@ -9,6 +9,7 @@ pub enum Trouble {
     NoBox,
 }
 
+// By hand, as the text below is: a derive would want one text for the two forms of a refusal.
 impl From<Fault> for Trouble {
     fn from(fault: Fault) -> Trouble {
         Trouble::Refused(fault)

@@ -3,38 +3,36 @@ use crate::number::{decimal, sixteen};
 use crate::reason::Reason;
 use common::{IdCode, Port};
 use std::alloc::Global;
+use std::str::Split;
 
 // The longest buffer that a call may ask for.
 pub const MOST_ROOM: usize = 70_000;
 
-// The words of a line that are still to be read, with a space between each two. It is `Copy`, which
-// std's `Split` is not.
-#[derive(Clone, Copy)]
+// The words of a line that are still to be read, with a space between each two, and the heap that the
+// bytes among them go to.
+#[derive(Drop)]
 pub struct Words<'a> {
-    rest: Option<&'a str>,
+    heap: Global,
+    words: Split<'a, char>,
 }
 
 impl<'a> Words<'a> {
-    pub fn of(line: &'a str) -> Words<'a> {
-        Words { rest: Some(line) }
+    pub fn of(heap: Global, line: &'a str) -> Words<'a> {
+        Words {
+            heap,
+            words: line.split(' '),
+        }
     }
 
     pub fn next(&mut self) -> Result<&'a str, Reason> {
-        let rest = self.rest.ok_or(Reason::TooFewWords)?;
-        let (word, rest) = match rest.split_once(' ') {
-            Some((word, rest)) => (word, Some(rest)),
-            None => (rest, None),
-        };
-        self.rest = rest;
-        Ok(word)
+        self.words.next().ok_or(Reason::TooFewWords)
     }
 
     // Refuses a line that has words left.
-    pub fn end(&self) -> Result<(), Reason> {
-        match self.rest {
-            Some(_) => Err(Reason::TooManyWords),
-            None => Ok(()),
-        }
+    pub fn end(mut self) -> Result<(), Reason> {
+        self.words
+            .next()
+            .map_or(Ok(()), |_| Err(Reason::TooManyWords))
     }
 
     pub fn number(&mut self) -> Result<u64, Reason> {
@@ -62,8 +60,8 @@ impl<'a> Words<'a> {
         Ok(room)
     }
 
-    pub fn bytes(&mut self, heap: Global) -> Result<Vec<u8>, Reason> {
-        bytes_of(heap, self.next()?)
+    pub fn bytes(&mut self) -> Result<Vec<u8>, Reason> {
+        bytes_of(self.heap, self.next()?)
     }
 
     pub fn shifts(&mut self) -> Result<[i32; 16], Reason> {

@@ -32,16 +32,10 @@ pub(crate) fn check_parts(rt: &impl Abort, a: &[u8], b: &[u8], n: usize) -> Resu
 
 // What a configuration frame says.
 pub(crate) fn read_config(bytes: &[u8], most: u16) -> Result<Config, Fault> {
-    match Frame::read(bytes)? {
-        Frame::Config2(body) => Config::read(body, most),
-        _ => Err(Fault::FrameType),
-    }
+    Config::read(Frame::read(bytes)?.config2()?, most)
 }
 
 // That there are these stations, in this order.
 pub(crate) fn check_stations(rt: &impl Abort, stations: &[Station], expected: &[Station]) {
-    assert_eq!(rt; stations.len(), expected.len());
-    for (station, other) in stations.iter().zip(expected) {
-        assert_eq!(rt; *station, *other);
-    }
+    assert!(rt; stations == expected);
 }
