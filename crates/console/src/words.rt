@@ -43,6 +43,7 @@ impl<'a> Words<'a> {
         Ok(u16::try_from(self.number()?)?)
     }
 
+    // `rate`, `id` and `port` differ in the type that they answer: a generic one would be no shorter.
     pub fn id(&mut self) -> Result<IdCode, Reason> {
         Ok(IdCode(u16::try_from(self.number()?)?))
     }

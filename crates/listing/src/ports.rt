@@ -47,6 +47,7 @@ pub(crate) fn show_ports(rt: &impl Print, build: &Build) -> io::Result<()> {
     Ok(())
 }
 
+// These two stay functions of a `bool`, since each is a word of a table's cell and of nothing else.
 fn encoding(float: bool) -> &'static str {
     if float { "float" } else { "integer" }
 }
