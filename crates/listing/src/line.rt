@@ -14,8 +14,8 @@ pub(crate) struct Line {
     pub(crate) finding: Result<Header, Fault>,
 }
 
-impl Line {
-    pub(crate) fn of(record: &Record) -> Line {
+impl From<&Record<'_>> for Line {
+    fn from(record: &Record<'_>) -> Line {
         Line {
             reading: record.reading,
             port: record.port,

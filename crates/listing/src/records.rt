@@ -11,7 +11,7 @@ pub(crate) fn show_records(rt: &impl Print, records: &[Record]) -> io::Result<()
         "#", "reading (s since 1970)", "line"
     )?;
     for (number, record) in (1usize..).zip(records) {
-        let line = Line::of(record);
+        let line = Line::from(record);
         totals.count(line.finding);
         println!(rt; "{number:>5}  {line}")?;
     }
