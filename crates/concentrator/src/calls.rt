@@ -18,7 +18,7 @@ pub struct Pulled {
     pub verdict: Result<(), Fault>,
 }
 
-// A slot's frame that was written: its length.
+// A slot's frame that was written: its length, as that of a `Taken`, since a lent front would keep the buffer.
 #[derive(Clone, Copy)]
 pub struct Written {
     pub len: usize,

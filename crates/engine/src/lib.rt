@@ -1,5 +1,6 @@
 // The alignment engine: slots, what they hold, and how they close. It knows neither feed nor policy
-// by itself: each call that may close slots is lent the policy.
+// by itself: each call that may close slots is lent the policy. An engine is to be held by C too, which
+// has no type parameters.
 #![tactic(auto)]
 
 mod admit;

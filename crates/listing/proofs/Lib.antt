@@ -1,3 +1,4 @@
 mod InputLemmas
 mod LinesLemmas
+mod WaitsLemmas
 mod BuildsLemmas

@@ -1,5 +1,6 @@
 -- The arguments that set waits.
-use Rattle.std.specs.Prelude.{◌≡◌, ℕ, Bool, ◌||◌, List, codes, Option, Some, None, bytes_eq}
+use Rattle.std.specs.Prelude.{◌≡◌, ℕ, Bool, ◌||◌, List, ◌∷◌, codes, Option, Some, None, Ok, bytes_eq}
+use Rattle.std.specs.Str.Parse.{ParsesUnsigned}
 use Rattle.policy.specs.declared.absolute.Absolute.{Absolute}
 use Rattle.policy.specs.declared.relative.Relative.{Relative}
 use Rattle.policy.specs.Policies.{capped}
@@ -23,3 +24,13 @@ IsPolicyOf None longest (One p) = IsAbsolute longest p
 IsPolicyOf None longest (Other p) = ⊥
 IsPolicyOf (Some after) longest (One p) = ⊥
 IsPolicyOf (Some after) longest (Other p) = IsRelative after longest p
+
+-- the first of these texts was taken, and it says this number of microseconds
+pub record TookNumber (before after : List (List ℕ)) (n : ℕ) : Type 0 where
+  pub text : List ℕ
+  pub first : before ≡ text ∷ after
+  pub number : ParsesUnsigned {E = ℕ} 64 10 text (Ok n)
+
+abbrev pub TookWait : List (List ℕ) → List (List ℕ) → Option ℕ → Type 0
+TookWait before after None = ⊥
+TookWait before after (Some n) = TookNumber before after n

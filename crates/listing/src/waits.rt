@@ -1,7 +1,6 @@
-ghost use Rattle.listing.specs.Waits.{IsPolicyOf, names_wait};
-ghost use Rattle.std.specs.Prelude.{◌≡◌, ◌≤◌, ◌↔◌, true, false, IsNone, IfOk, IfSome, OnErr, None, Some, Ok, Err, string_bytes, codes};
-ghost use Rattle.std.specs.Str.Parse.{ParsesUnsigned};
-ghost use Rattle.std.specs.Vec.Iter.{into_iter_len};
+ghost use Rattle.listing.specs.Waits.{IsPolicyOf, TookNumber, TookWait, names_wait};
+ghost use Rattle.std.specs.Prelude.{◌≡◌, ◌≤◌, ◌↔◌, true, false, IfOk, OnErr, None, Some, Ok, Err, string_bytes, codes, map};
+ghost use Rattle.std.specs.Vec.Iter.{into_iter_items, into_iter_len};
 
 use choice::Simple;
 use policy::{Absolute, Relative};
@@ -29,12 +28,13 @@ pub enum WaitError {
     NotANumber,
 }
 
-// The wait that an argument gives.
-fn wait_in(word: Option<String>) -> Result<u64, WaitError>
-    ensures missing { result ≡ Err WaitError.NoNumber ↔ IsNone word }
-    ensures number { IfSome word (λ text. ParsesUnsigned 64 10 (string_bytes text) result) }
+// Takes the next word, which is to be a number of microseconds.
+fn next_wait(words: &mut Args) -> Result<u64, WaitError>
+    ensures took { IfOk result (λ wait. TookNumber (map string_bytes (into_iter_items words.old)) (map string_bytes (into_iter_items words.new)) wait) }
+    ensures missing { result ≡ Err WaitError.NoNumber ↔ into_iter_len words.old ≡ 0 }
+    ensures shorter { into_iter_len words.new ≤ into_iter_len words.old }
 {
-    let word = word.ok_or(WaitError::NoNumber)?;
+    let word = words.next().ok_or(WaitError::NoNumber)?;
     word.as_str().parse().map_err(|_| WaitError::NotANumber)
 }
 
@@ -56,12 +56,14 @@ impl Waits {
         ensures other { names_wait word.now ≡ false → (result ≡ Ok false) × (self.new ≡ self.old) }
         ensures longest { word.now ≡ codes "--wait" → self.new.after_arrival ≡ self.old.after_arrival }
         ensures relative { word.now ≡ codes "--relative" → self.new.longest ≡ self.old.longest }
+        ensures wait { word.now ≡ codes "--wait" → IfOk result (λ named. TookNumber (map string_bytes (into_iter_items words.old)) (map string_bytes (into_iter_items words.new)) self.new.longest) }
+        ensures arrival { word.now ≡ codes "--relative" → IfOk result (λ named. TookWait (map string_bytes (into_iter_items words.old)) (map string_bytes (into_iter_items words.new)) self.new.after_arrival) }
         ensures err { OnErr result (self.new ≡ self.old) }
         ensures shorter { into_iter_len words.new ≤ into_iter_len words.old }
     {
         match word {
-            "--wait" => self.longest = wait_in(words.next())?,
-            "--relative" => self.after_arrival = Some(wait_in(words.next())?),
+            "--wait" => self.longest = next_wait(words)?,
+            "--relative" => self.after_arrival = Some(next_wait(words)?),
             _ => return Ok(false),
         }
         Ok(true)

@@ -13,8 +13,8 @@ pub(crate) const BEHIND_PARTS: usize = 4;
 // The combined code, the rate in frames per second, and the ports with three sums over them: of
 // stations, of bytes of data body, and of bytes of station parts.
 // No `impl Model`: a view of the ports forgets the table's filler, and so `Copy` would be lost.
-// The three sums have no struct of their own: only `bounded` joins two of them, and a struct would put
-// a name more before each.
+// The three sums have no struct of their own: only `bounded` joins them, and a struct would put a name
+// more before each.
 #[derive(Clone, Copy)]
 pub struct Plan {
     pub(crate) id: IdCode,

@@ -17,7 +17,7 @@ pub struct Options {
 }
 
 impl Options {
-    // The options that the program's arguments give.
+    // The options that the program's arguments give. `replay` has such a loop too, and says why both stand.
     pub fn read(rt: &HostRuntime) -> anyhow::Result<Options> {
         let mut waits = Waits::usual();
         let mut output = Output::Table;
