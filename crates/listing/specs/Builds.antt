@@ -1,10 +1,9 @@
 -- What the configurations of a capture make: a plan, and a combined configuration.
-use Rattle.std.specs.Prelude.{ℕ, zero, suc, Bool, true, false, List, [], ◌∷◌, ◌++◌, length, take, replicate, Option, Some, None, Ok, Err, Result, unwrap_or, slice_get}
+use Rattle.std.specs.Prelude.{ℕ, zero, suc, Bool, true, false, List, [], ◌∷◌, ◌++◌, length, take, replicate, Option, Some, None, Ok, Err, Result, unwrap_or}
 use Rattle.std.specs.declared.vec.Vec.{Vec}
 use Rattle.std.specs.declared.alloc.Global.{Global}
 use Rattle.common.specs.declared.fault.Fault.{Fault}
-use Rattle.plan.specs.Ports.{PortOf}
-use Rattle.plan.specs.Plans.{PlanOf, adds, add_answer}
+use Rattle.plan.specs.Plans.{adds, add_answer}
 use Rattle.plan.specs.Publish.{publishes}
 use Rattle.plan.specs.Runs.{Call, adding, publishing, State, start, after_call, after_calls}
 use Rattle.capture.specs.declared.record.Record.{Record}
@@ -59,10 +58,3 @@ published s reading = front_by (publishes s.plan reading (length s.buffer)) (aft
 abbrev pub bytes_by : Result (Vec ℕ Global) Fault → Result (List ℕ) Fault
 bytes_by (Ok v) = Ok v.items
 bytes_by (Err e) = Err e
-
-abbrev pub filled_port : Option Outcome → PlanOf → Option PortOf
-filled_port (Some (outcome.Filled port)) p = slice_get p.ports port.0
-filled_port (Some outcome.Unused) p = None
-filled_port (Some outcome.NoConfiguration) p = None
-filled_port (Some (outcome.Refused fault)) p = None
-filled_port None p = None

@@ -1,9 +1,7 @@
-ghost use Rattle.listing.specs.Builds.{after_line, after_lines, bytes_by, filled_port, outcome_of, outcomes, published};
+ghost use Rattle.listing.specs.Builds.{after_line, after_lines, bytes_by, outcome_of, outcomes, published};
 ghost use Rattle.listing.specs.Lines.{first_config as first_config_of, is_used as used, last_reading as last_reading_of};
-ghost use Rattle.plan.specs.Tables.{port_of as port_in};
 ghost use Rattle.plan.specs.Views.{plan_of};
-ghost use Rattle.std.specs.Option.{option_map};
-ghost use Rattle.std.specs.Prelude.{◌≡◌, IfOk, slice_get};
+ghost use Rattle.std.specs.Prelude.{◌≡◌, IfOk};
 
 use crate::find::{LINES, first_config, first_rate, is_used};
 use capture::Record;
@@ -39,18 +37,6 @@ pub struct Build {
     pub lines: Vec<Outcome>,
     // the combined configuration, published at the last reading
     pub combined: Result<Vec<u8>, Fault>,
-}
-
-impl Build {
-    // The record of the plan's port that a line fills, if it fills one.
-    pub fn port_of(&self, line: Port) -> Option<&plan::Record>
-        ensures { option_map (λ r. port_in r.now) result ≡ filled_port (slice_get self.now.lines.items line.0) (plan_of self.now.plan) }
-    {
-        match self.lines.get(usize::from(line.0)) {
-            Some(Outcome::Filled(port)) => self.plan.ports().get(usize::from(port.0)),
-            _ => None,
-        }
-    }
 }
 
 // The last reading, or 0 where there is no record: any reading does then, since no port is filled.

@@ -1,5 +1,5 @@
-// What the programs that list a capture have in common: its records, the plan that its
-// configurations make, the combined configuration, and how long slots are held open.
+// The listing of a capture: its records, the plan that its configurations make, the combined
+// configuration, and how long slots are held open.
 #![tactic(auto)]
 
 mod build;

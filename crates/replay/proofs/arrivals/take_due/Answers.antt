@@ -1,9 +1,9 @@
 use Rattle.std.proofs.Common.{◌≤◌, length, sym, arith}
 use Rattle.std.proofs.lemmas.List.{length-take-le}
 use Rattle.recorded.specs.Recordings.{meaning_of}
-use Rattle.replay_box.proofs.Taking.{taken-fits, fewer_wait}
-use Rattle.replay_box.proofs.arrivals.take_due.Goals as goal
-use Rattle.replay_box.proofs.arrivals.take_due.Goals.{In-Ok}
+use Rattle.replay.proofs.Taking.{taken-fits, fewer_wait}
+use Rattle.replay.proofs.arrivals.take_due.Goals as goal
+use Rattle.replay.proofs.arrivals.take_due.Goals.{In-Ok}
 
 -- the frame lies within the buffer
 fits : (c : In-Ok) → c.in-Ok.taken.len ≤ length c.next.new.buffer

@@ -1,5 +1,5 @@
-use Rattle.replay_box.proofs.Leading.{led-next}
-use Rattle.replay_box.proofs.wired.WiredFeed.next.Goals as goal
+use Rattle.replay.proofs.Leading.{led-next}
+use Rattle.replay.proofs.wired.WiredFeed.next.Goals as goal
 
 pub returns : goal.returns
 returns g c =

@@ -7,7 +7,7 @@ use Rattle.feed.specs.Feeds.{Waiting, Next, Behaviour, after}
 use Rattle.feed.specs.Calls.{short}
 use Rattle.feed.proofs.Nexts.{came, Nexted}
 use Rattle.listing.specs.declared.build.Outcome.{Outcome}
-use Rattle.replay_box.specs.Wires.{port_at, all_led}
+use Rattle.replay.specs.Wires.{port_at, all_led}
 
 module _ (lines : List Outcome) (m m' : Behaviour) (b b' : List ℕ) (t : Taken) (q : Port) (n : Nexted m m' b b' t) (goes : q.0 ≡ port_at lines t.port.0) where
   by_first : (w : Waiting) (ws : List Waiting) → short b ≡ false → m [] ≡ w ∷ ws → t ≡ record { port = record { 0 = w.port }; len = length w.bytes } → Nexted (all_led lines m) (all_led lines m') b b' (record { port = q; len = t.len })

@@ -3,6 +3,7 @@ use crate::hex::HexLine;
 use crate::options::Output;
 use crate::present::Present;
 use crate::slot_line::SlotLine;
+use crate::written::WrittenSlot;
 use anyhow::Context;
 use common::{Fault, Port};
 use std::collections::BTreeMap;
@@ -42,10 +43,11 @@ impl Report {
     pub fn begin(&self, rt: &impl Print, wait: u64) -> anyhow::Result<()> {
         if let Output::Table = self.output {
             println!(rt)?;
-            println!(rt; "slots: closed at most {wait} microseconds after their stamps")?;
             println!(rt;
-                "{:>12}  {:<30}  {}  {}  {}  ports",
-                "slot", "stamp", "quality", "bytes", "check word"
+                "slots: due at most {wait} microseconds after their stamps, written at the first reading from then on"
+            )?;
+            println!(rt;
+                "        slot  stamp (UTC)                  written (s since 1970)  after (us)  quality  bytes  check  ports"
             )?;
         }
         Ok(())
@@ -84,9 +86,12 @@ impl Report {
     }
 
     // A line for a slot with a port; a slot without one is put off.
-    fn print_slot(&mut self, rt: &impl Print, slot: u64, frame: &[u8]) -> anyhow::Result<()> {
-        let present = self.accepted.remove(&slot).unwrap_or(Present::none());
-        let line = SlotLine::read(slot, present, frame).context("refused")?;
+    fn print_slot(&mut self, rt: &impl Print, written: WrittenSlot) -> anyhow::Result<()> {
+        let present = self
+            .accepted
+            .remove(&written.slot)
+            .unwrap_or(Present::none());
+        let line = SlotLine::read(written, present).context("refused")?;
         if present.is_none() {
             self.empty = Some(EmptyRun::with(self.empty, line));
             return Ok(());
@@ -97,11 +102,11 @@ impl Report {
     }
 
     // Shows the frame that was written for a slot.
-    pub fn written(&mut self, rt: &impl Print, slot: u64, frame: &[u8]) -> anyhow::Result<()> {
+    pub fn written(&mut self, rt: &impl Print, written: WrittenSlot) -> anyhow::Result<()> {
         match self.output {
-            Output::Table => self.print_slot(rt, slot, frame),
+            Output::Table => self.print_slot(rt, written),
             Output::Hex => {
-                let hex = HexLine(frame);
+                let hex = HexLine(written.frame);
                 println!(rt; "{hex}")?;
                 Ok(())
             }

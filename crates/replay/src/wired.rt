@@ -1,4 +1,4 @@
-ghost use Rattle.replay_box.specs.Wires.{port_at, wired};
+ghost use Rattle.replay.specs.Wires.{port_at, wired};
 ghost use Rattle.std.specs.Prelude.{◌≡◌};
 
 use common::{Fault, Port};

@@ -1,6 +1,7 @@
 use crate::report::Report;
 use crate::slot::slot_of;
 use crate::wired::Wired;
+use crate::written::WrittenSlot;
 use anyhow::{Context, bail};
 use capture::Record;
 use choice::Simple;
@@ -19,7 +20,7 @@ const LONGEST_GAP: u64 = 86_400_000_000;
 // the 32 that can hold frames.
 const MOST_CLOSED: u32 = 8_000;
 
-// A host that is prompt: it writes every closed slot after each tick and before each pull.
+// A host that is prompt: it writes each slot as soon as a tick or a pull has closed it.
 #[derive(Drop)]
 pub struct Host<'a> {
     concentrator: Concentrator<Wired<'a, Recorded<'a>>, Simple>,
@@ -60,7 +61,14 @@ impl<'a> Host<'a> {
             .concentrator
             .write(ticket, &mut out)
             .context("refused")?;
-        self.report.written(rt, slot, &out[..written.len])
+        self.report.written(
+            rt,
+            WrittenSlot {
+                slot,
+                reading: self.clock,
+                frame: &out[..written.len],
+            },
+        )
     }
 
     // Takes and writes all slots that are closed.
@@ -81,6 +89,7 @@ impl<'a> Host<'a> {
         self.concentrator
             .tick(reading, &mut scratch)
             .context("refused")?;
+        self.clock = reading;
         self.write_closed(rt)
     }
 
@@ -92,7 +101,6 @@ impl<'a> Host<'a> {
         for clock in (self.clock..reading).step_by(LONGEST_STEP as usize).skip(1) {
             self.tick(rt, clock)?;
         }
-        self.clock = reading;
         self.tick(rt, reading)
     }
 
@@ -115,10 +123,10 @@ impl<'a> Host<'a> {
             if last.replace(record.reading) != Some(record.reading) {
                 self.tick_up_to(rt, record.reading)?;
             }
-            self.write_closed(rt)?;
             self.pull(rt, number, record.port)?;
+            self.write_closed(rt)?;
         }
-        self.write_closed(rt)
+        Ok(())
     }
 
     // Plays the capture, and then goes on until every slot with a frame is closed and written.

@@ -1,6 +1,6 @@
 use Rattle.std.proofs.Common.{◌≡◌, [], length}
 use Rattle.recorded.specs.Recordings.{meaning_of}
-use Rattle.replay_box.proofs.arrivals.take_due.Given as goal
+use Rattle.replay.proofs.arrivals.take_due.Given as goal
 
 abbrev pub invariant-loop-taken : goal.invariant-loop-taken
 invariant-loop-taken l = length l.buffer ≡ 1040

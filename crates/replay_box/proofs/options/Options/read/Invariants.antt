@@ -1,5 +1,0 @@
-use Rattle.std.specs.Vec.Iter.{into_iter_len}
-use Rattle.replay_box.proofs.options.Options.read.Given as goal
-
-abbrev pub decreases-loop-word : goal.decreases-loop-word
-decreases-loop-word l = into_iter_len l.words
