@@ -11,7 +11,7 @@ use Rattle.laws.specs.Machine as M
 use Rattle.laws.proofs.Stand.{runs, keeps}
 use Rattle.runs.specs.Settings.{Opened, setting}
 use Rattle.runs.specs.Events.{whole_of}
-use Rattle.runs.specs.Requests.{Request, ticking, admitting, pulling, taking, writing, call_of, calls_of, event_of, leaves, journal_of}
+use Rattle.runs.specs.Requests.{Request, ticking, admitting, pulling, taking, writing, counting, call_of, calls_of, event_of, leaves, journal_of}
 use Rattle.runs.specs.Laws.{CallsKeepTheLaw}
 use Rattle.runs.proofs.Following.{opened-same}
 use Rattle.runs.proofs.Calls.{tick-answer, tick-next, admit_answer, admit_next, pull_answer, pull_next, take-answer, take_next, write-answer, write-next}
@@ -27,6 +27,7 @@ module _ (e : E.Setting) (closing : E.Closing) (bound reading : ℕ) (o : Opened
   answered s (pulling buffer) = pull_answer e closing bound reading o s buffer
   answered s taking = take-answer e closing bound reading o s
   answered s (writing n room) = write-answer e closing bound reading o s n room
+  answered s counting = refl
 
   left : (s : M.State) (r : Request) → leaves (whole_of e closing s) r ≡ whole_of e closing (M.next g s (M.event g s (call_of r)))
   left s (ticking r scratch) = tick-next e closing bound reading o s r scratch
@@ -34,6 +35,7 @@ module _ (e : E.Setting) (closing : E.Closing) (bound reading : ℕ) (o : Opened
   left s (pulling buffer) = pull_next e closing bound reading o s buffer
   left s taking = take_next e closing bound reading o s
   left s (writing n room) = write-next e closing bound reading o s n room
+  left s counting = refl
 
   follows : (s : M.State) (rs : List Request) → journal_of (whole_of e closing s) rs ≡ M.answers g s (calls_of rs)
   follows s [] = refl

@@ -3,10 +3,10 @@ use Rattle.std.specs.Prelude.{ℕ, cond, List, take, None, Ok, Err, Result, ◌=
 use Rattle.common.specs.declared.fault.Fault as the_fault
 use Rattle.common.specs.Faults.{number}
 use Rattle.engine.specs.Boxes as E
-use Rattle.engine.specs.Calls.{verdict_number_of}
+use Rattle.engine.specs.Calls.{CountsOf, verdict_number_of}
 use Rattle.concentrator.specs.declared.calls.Pulled.{Pulled}
 use Rattle.concentrator.specs.Wholes.{Whole}
-use Rattle.laws.specs.Journal.{Ticking, Admitting, Pulling, Taking, Writing, Host, Feed, Event, Ticked, Took, Lent, Wrote, Refused}
+use Rattle.laws.specs.Journal.{Ticking, Admitting, Pulling, Taking, Writing, Counting, Host, Feed, Event, Ticked, Took, Lent, Wrote, Told, Refused}
 use Rattle.laws.specs.Machine.{State}
 use Rattle.runs.specs.Models.{box_of}
 
@@ -35,3 +35,7 @@ take_event (Err f) = Refused Taking (number f)
 abbrev pub write_event : ℕ → ℕ → List ℕ → Result ℕ the_fault.Fault → Event
 write_event n len frame (Ok l) = Wrote len n frame
 write_event n len frame (Err f) = Refused (Writing n len) (number f)
+
+abbrev pub counts_event : Result CountsOf the_fault.Fault → Event
+counts_event (Ok c) = Told (c.given 0) c.written c.given
+counts_event (Err f) = Refused Counting (number f)
