@@ -1,5 +1,5 @@
 -- The ticket that is out.
-use Rattle.std.specs.Prelude.{ℕ, Some, None, Option}
+use Rattle.std.specs.Prelude.{ℕ, cond, Some, None, Option, ◌==◌}
 use Rattle.common.specs.declared.fault.Fault.{Fault}
 use Rattle.concentrator.specs.declared.ticket.Ticket.{Ticket}
 use Rattle.concentrator.specs.Wholes.{Whole}
@@ -17,3 +17,8 @@ out_of None o = o
 -- the number of the ticket that is out
 abbrev pub ticket_out : Whole → Option ℕ
 ticket_out w = out_of w.shut w.box.out
+
+-- what is held after a ticket with number n was spent
+abbrev pub held_after : Option ℕ → ℕ → Option ℕ
+held_after None n = None
+held_after (Some k) n = cond (k == n) None (Some k)

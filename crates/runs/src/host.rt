@@ -1,5 +1,5 @@
 ghost use Rattle.concentrator.specs.Wholes.{whole};
-ghost use Rattle.host.specs.Tickets.{number_held, ticket_out};
+ghost use Rattle.runs.specs.Tickets.{number_held, ticket_out};
 ghost use Rattle.std.specs.Prelude.{◌≡◌};
 
 use concentrator::{Concentrator, Ticket};
