@@ -50,10 +50,10 @@ module _ (o : Opening) where
   facts = opened-facts o.plan o.closing o.bound o.reading o.opens
 
   -- the calls of a run, whose journal and state are the machine's
-  record Runs_as (J : Journal) (w : Whole) : Type 0 where
-    calls : Past Call
-    journal : J ≡ M.journal h o.feed calls
-    left_so : w ≡ whole_of e o.closing (M.state h o.feed calls)
+  pub record Runs_as (J : Journal) (w : Whole) : Type 0 where
+    pub calls : Past Call
+    pub journal : J ≡ M.journal h o.feed calls
+    pub left_so : w ≡ whole_of e o.closing (M.state h o.feed calls)
 
   pub runs_as : {J : Journal} {w : Whole} → Reached o J w → Runs_as J w
   runs_as opened = record {

@@ -3,3 +3,4 @@ pub mod Following
 pub mod Laid
 pub mod Followed
 mod Outs
+mod Listed

@@ -46,4 +46,3 @@ module _ (e : E.Setting) where
     sized = sized;
     tail = λ n x. bytes16 (check_word_of (head n x ++ body_from (blocks_of e x) e.ports 0));
   }
-

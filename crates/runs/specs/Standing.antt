@@ -10,8 +10,10 @@ use Rattle.laws.specs.Journal.{Journal, start, ◌▹◌}
 use Rattle.runs.specs.Settings.{setting}
 use Rattle.runs.specs.Opens.{Opens, opened-facts}
 use Rattle.runs.specs.Requests.{Request, leaves}
+use Rattle.runs.specs.declared.call.Call.{Call}
 use Rattle.runs.specs.Entries.{due, left_by}
 use Rattle.runs.specs.Events.{event_of}
+use Rattle.runs.specs.Given.{requests_of}
 
 -- an opening that no refusal shuts: a plan, a policy's closings and bound, a reading, and what a feed means
 pub record Opening : Type 0 where
@@ -43,6 +45,6 @@ pub record JustOpened (p : PlanOf) (closing : Closing) (bound reading : ℕ) (fe
   pub reached : Reached opening start w
 
 -- a concentrator that is left once some of the calls were made, from the first on
-pub record LeftBySome (w : Whole) (rs : List Request) (left : Whole) : Type 0 where
-  made : ℕ
-  pub so : left ≡ left_by w (take made rs)
+pub record LeftBySome (w : Whole) (cs : List Call) (left : Whole) : Type 0 where
+  pub made : ℕ
+  pub so : left ≡ left_by w (requests_of (take made cs))

@@ -52,7 +52,12 @@ impl<F: Feed, P: Policy> Host<F, P> {
     }
 
     // Writes into a new buffer, with the ticket that is held if it has the number, else with a new one.
-    fn write(&mut self, heap: Global, number: u64, room: usize) -> Result<Result<Vec<u8>, Fault>, AllocError>
+    fn write(
+        &mut self,
+        heap: Global,
+        number: u64,
+        room: usize,
+    ) -> Result<Result<Vec<u8>, Fault>, AllocError>
         ensures answer { IfOk result (λ a. bytes_by a ≡ frame_by (frame_of (standing self.old) number) (write_said (standing self.old) number room)) }
         ensures next { IfOk result (λ a. standing self.new ≡ wrote (standing self.old) number room) }
         ensures err { OnErr result (standing self.new ≡ standing self.old) }

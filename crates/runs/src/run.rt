@@ -17,12 +17,16 @@ use std::alloc::{AllocError, Global};
 impl<F: Feed, P: Policy> Host<F, P> {
     // Makes the calls, one after the other, and answers their journal. Whatever the calls are, and whatever
     // feed and policy the concentrator has, the law over runs holds of the journal from the opening on.
-    pub fn run<'a>(&mut self, heap: Global, calls: &[Call<'a>]) -> Result<Vec<Entry<'a>>, AllocError>
+    pub fn run<'a>(
+        &mut self,
+        heap: Global,
+        calls: &[Call<'a>],
+    ) -> Result<Vec<Entry<'a>>, AllocError>
         ensures answers { IfOk result (λ journal. entries_of journal ≡ all_due (standing self.old) (requests_of calls.now)) }
         ensures next { IfOk result (λ journal. standing self.new ≡ left_by (standing self.old) (requests_of calls.now)) }
         ensures law { IfOk result (λ journal. (o : Opening) (before : Journal) → Reached o before (standing self.old) → Kept o (onto before (events_of (entries_of journal))) (standing self.new)) }
         ensures goes_on { IfOk result (λ journal. (o : Opening) (before : Journal) → Reached o before (standing self.old) → Reached o (onto before (events_of (entries_of journal))) (standing self.new)) }
-        ensures err { OnErr result (LeftBySome (standing self.old) (requests_of calls.now) (standing self.new)) }
+        ensures err { OnErr result (LeftBySome (standing self.old) calls.now (standing self.new)) }
     {
         let mut journal = Vec::new(heap);
         for call in calls {
