@@ -1,3 +1,4 @@
 pub mod Bodies
 pub mod Qualities
 pub mod Spans
+mod Lengths

@@ -80,3 +80,7 @@ frame_of w n = on.frame_of w.setting w.box n
 
 abbrev pub wrote : Whole → ℕ → ℕ → Whole
 wrote w n room = on.if_open w.shut w (moved w (on.wrote_by w.setting w.box n room) w.feed)
+
+-- ---- counts
+abbrev pub counts_said : Whole → Result on.CountsOf Fault
+counts_said w = on.unless_shut w.shut (Ok (on.counts_in w.box))

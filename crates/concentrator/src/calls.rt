@@ -80,6 +80,7 @@ impl<F: Feed, P: Policy> Concentrator<F, P> {
         ensures answer { length_by result ≡ write_said (whole self.old) ticket.number (length out.old) }
         ensures fits { IfOk result (λ w. w.len ≤ length out.old) }
         ensures frame { out.new ≡ left_by (length_by result) (frame_of (whole self.old) ticket.number) out.old }
+        ensures long { IfOk result (λ w. w.len ≡ length (frame_of (whole self.old) ticket.number)) }
         ensures next { whole self.new ≡ wrote (whole self.old) ticket.number (length out.old) }
     {
         let number = ticket.spend();

@@ -3,10 +3,11 @@
 
 mod calls;
 mod concentrator;
+mod counts;
 mod open;
 mod ticket;
 
 pub use calls::{Pulled, Written};
 pub use concentrator::Concentrator;
-pub use engine::{EARLIEST, LONGEST_STEP};
+pub use engine::{Counts, EARLIEST, LONGEST_STEP};
 pub use ticket::Ticket;

@@ -137,6 +137,15 @@ taken closing g s q bytes = counted (placed closing g s q (judge g s q bytes)) (
 abbrev pub admitted : Closing → Setting → Box → ℕ → List ℕ → Box
 admitted closing g s q bytes = cond (exhausted s) s (taken closing g s q bytes)
 
+-- ---- counts: the slots written, the frames judged, and by number those that were given it, 0 for those accepted
+pub record CountsOf : Type 0 where
+  pub written : ℕ
+  pub judged : ℕ
+  pub given : ℕ → ℕ
+
+abbrev pub counts_in : Box → CountsOf
+counts_in s = record { written = s.written; judged = s.judged; given = s.tally }
+
 -- ---- take
 abbrev pub take_by : Setting → Box → Option ℕ → Result ℕ Fault
 take_by g s (Some k) = Err fault.TicketOut

@@ -42,6 +42,9 @@ admit_said e q bytes = on.unless_shut e.shut (on.admit_said e.setting e.box q by
 abbrev pub admitted : Closing → State → ℕ → List ℕ → State
 admitted closing e q bytes = left e (on.admitted closing e.setting e.box q bytes)
 
+abbrev pub counts_said : State → Result on.CountsOf Fault
+counts_said e = on.unless_shut e.shut (Ok (on.counts_in e.box))
+
 abbrev pub take_said : State → Result ℕ Fault
 take_said e = on.unless_shut e.shut (on.take_said e.setting e.box)
 

@@ -1,11 +1,13 @@
 -- What an engine's own values stand for.
-use Rattle.std.specs.Prelude.{ℕ, ◌+◌, cond, Some, None, slice_index}
+use Rattle.std.specs.Prelude.{ℕ, ◌+◌, cond, Some, None, Ok, Err, Result, slice_index}
+use Rattle.common.specs.declared.fault.Fault.{Fault}
 use Rattle.slots.specs.Slots.{frames_of}
 use Rattle.plan.specs.Tables.{ports_of}
 use Rattle.engine.specs.declared.terms.Terms.{Terms}
 use Rattle.engine.specs.declared.engine.Engine.{Engine}
+use Rattle.engine.specs.declared.counts.Counts.{Counts}
 use Rattle.engine.specs.Boxes.{Setting, Box}
-use Rattle.engine.specs.Calls.{begun}
+use Rattle.engine.specs.Calls.{begun, CountsOf}
 use Rattle.engine.specs.States.{State}
 use Rattle.engine.specs.Rings.{held_in, arrived_in}
 
@@ -37,3 +39,10 @@ state_of e = record { shut = e.terms.shut; plan = e.terms.plan; setting = settin
 -- that of an engine that holds nothing yet
 abbrev pub fresh : Terms → ℕ → State
 fresh t reading = record { shut = t.shut; plan = t.plan; setting = setting_by t; box = begun (setting_by t) reading }
+
+abbrev pub counts_of : Counts → CountsOf
+counts_of c = record { written = c.written; judged = c.judged; given = λ v. slice_index c.given v }
+
+abbrev pub counts_by : Result Counts Fault → Result CountsOf Fault
+counts_by (Ok c) = Ok (counts_of c)
+counts_by (Err e) = Err e

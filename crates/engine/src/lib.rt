@@ -5,6 +5,8 @@
 
 mod admit;
 mod closing;
+mod counting;
+mod counts;
 mod engine;
 mod judge;
 mod open;
@@ -16,5 +18,6 @@ mod tick;
 mod write;
 
 pub use closing::EARLIEST;
+pub use counts::Counts;
 pub use engine::Engine;
 pub use tick::LONGEST_STEP;

@@ -17,6 +17,7 @@ use Rattle.laws.specs.Journal as J
 use Rattle.laws.specs.Machine as M
 use Rattle.laws.proofs.Why as Why
 use Rattle.runs.specs.Models.{box_of}
+use Rattle.runs.specs.Entries.{front_by, frame_by}
 use Rattle.runs.specs.Events.{whole_of, tick_event, admit_event, pull_event, take_event, write_event}
 use Rattle.runs.specs.Settings.{Opened, setting}
 use Rattle.runs.proofs.Following.{settled_same, taken-same, verdict-same, cleared-same}
@@ -91,10 +92,10 @@ module _ (e : E.Setting) (closing : E.Closing) (bound reading : ℕ) (o : Opened
       go false = took-next J.Host q b
 
   -- ---- pull
-  pub pull_answer : (buffer : List ℕ) → pull_event (length buffer) (Q.pull_buffer w buffer) (Q.pull_said w buffer) ≡ M.event g s (J.Pulling (length buffer))
+  pub pull_answer : (buffer : List ℕ) → pull_event (length buffer) (front_by (Q.pull_buffer w buffer) (Q.pull_said w buffer)) ≡ M.event g s (J.Pulling (length buffer))
   pull_answer buffer = go (ltb (length buffer) 1040) (leb 1000000000000000 s.judged) (s.feed [])
     where
-      go : (a c : Bool) (fs : List Waiting) → pull_event (length buffer) (cond a buffer (cond c buffer (first_over fs buffer))) (cond a (Err fault.Buffer) (cond c (Err fault.Exhausted) (Q.pulled_by w fs))) ≡ cond a (J.Refused (J.Pulling (length buffer)) 17) (cond c (J.Refused (J.Pulling (length buffer)) 28) (M.pulls g s (length buffer) fs))
+      go : (a c : Bool) (fs : List Waiting) → pull_event (length buffer) (front_by (cond a buffer (cond c buffer (first_over fs buffer))) (cond a (Err fault.Buffer) (cond c (Err fault.Exhausted) (Q.pulled_by w fs)))) ≡ cond a (J.Refused (J.Pulling (length buffer)) 17) (cond c (J.Refused (J.Pulling (length buffer)) 28) (M.pulls g s (length buffer) fs))
       go true c fs = refl
       go false true fs = refl
       go false false [] = refl
@@ -127,10 +128,10 @@ module _ (e : E.Setting) (closing : E.Closing) (bound reading : ℕ) (o : Opened
       go None = elim (ltb (e.first + s.written) s.front) as (λ t. W.moved w (K.lent_by (box_of e s) (cond t (Ok (e.first + s.written)) (Err fault.NoneClosed))) s.feed ≡ whole_of e closing (M.next g s (cond t (J.Lent (e.first + s.written)) (J.Refused J.Taking 23)))) [ true ↦ refl | false ↦ refl ]
 
   -- ---- write
-  pub write-answer : (n room : ℕ) → write_event n room (Q.frame_of w n) (Q.write_said w n room) ≡ M.event g s (J.Writing n room)
+  pub write-answer : (n room : ℕ) → write_event n room (frame_by (Q.frame_of w n) (Q.write_said w n room)) ≡ M.event g s (J.Writing n room)
   write-answer n room = rw (is_out_same s.out n) (go (M.is_out s.out n) (ltb room (slot_length e.ports)))
     where
-      go : (a c : Bool) → write_event n room (Q.frame_of w n) (cond a (cond c (Err fault.Buffer) (Ok (slot_length e.ports))) (Err fault.WrongTicket)) ≡ cond a (cond c (J.Refused (J.Writing n room) 17) (J.Wrote room n (g.frame n (s.held n)))) (J.Refused (J.Writing n room) 29)
+      go : (a c : Bool) → write_event n room (frame_by (Q.frame_of w n) (cond a (cond c (Err fault.Buffer) (Ok (slot_length e.ports))) (Err fault.WrongTicket))) ≡ cond a (cond c (J.Refused (J.Writing n room) 17) (J.Wrote room n (g.frame n (s.held n)))) (J.Refused (J.Writing n room) 29)
       go true true = refl
       go true false = refl
       go false c = refl

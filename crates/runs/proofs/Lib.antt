@@ -1,5 +1,6 @@
-mod Calls
-mod Following
-mod Laid
-mod Openings
-mod Followed
+pub mod Calls
+pub mod Following
+pub mod Laid
+pub mod Followed
+mod Outs
+mod Listed

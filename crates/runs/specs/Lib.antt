@@ -1,6 +1,12 @@
 pub mod Models
 pub mod Numbered
 pub mod Settings
-pub mod Events
+pub mod Opens
+pub mod Layouts
 pub mod Requests
-pub mod Laws
+pub mod Entries
+pub mod Events
+pub mod Given
+pub mod Standing
+pub mod Kept
+pub mod Tickets

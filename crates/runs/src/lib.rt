@@ -1,12 +1,15 @@
-// Runs of calls: the model of the concentrator keeps the law.
+// Runs of a concentrator: a host makes calls that are given as values, and answers their journal, with
+// the law over runs as its contract.
 #![tactic(auto)]
 
-ghost use Rattle.runs.specs.Laws.{CallsKeepTheLaw};
+mod call;
+mod entry;
+mod host;
+mod make;
+mod open;
+mod run;
+mod tickets;
 
-// Whatever is opened, with whatever feed and policy, each list of calls is answered as the law asks. Of
-// the calls only the counts are missing, which no call tells yet.
-pub fn calls_keep_the_law() -> u8
-    ensures { CallsKeepTheLaw }
-{
-    0
-}
+pub use call::Call;
+pub use entry::{Entry, PulledFrame};
+pub use host::Host;

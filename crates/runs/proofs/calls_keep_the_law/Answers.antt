@@ -1,5 +1,0 @@
-use Rattle.runs.proofs.Followed.{calls_keep_the_law_lem}
-use Rattle.runs.proofs.calls_keep_the_law.Goals as goal
-
-pub returns : goal.returns
-returns c = calls_keep_the_law_lem

@@ -1,0 +1,115 @@
+ghost use Rattle.concentrator.specs.Calls.{frame_of, lent, pull_buffer, pull_said, pulled, take_said, write_said, wrote};
+ghost use Rattle.runs.specs.Entries.{due, frame_by, front_by};
+ghost use Rattle.runs.specs.Given.{bytes_by, entry_of, pulled_by, request_of, standing};
+ghost use Rattle.runs.specs.Requests.{leaves};
+ghost use Rattle.std.specs.Prelude.{◌≡◌, IfOk, OnErr, replicate};
+
+use crate::call::Call;
+use crate::entry::{Entry, PulledFrame};
+use crate::host::Host;
+use crate::tickets::ticket_for;
+use common::Fault;
+use feed::Feed;
+use policy::Policy;
+use std::alloc::{AllocError, Global};
+
+impl<F: Feed, P: Policy> Host<F, P> {
+    // Pulls into a new buffer.
+    fn pull(&mut self, heap: Global, room: usize) -> Result<Result<PulledFrame, Fault>, AllocError>
+        ensures answer { IfOk result (λ a. pulled_by a ≡ front_by (pull_buffer (standing self.old) (replicate room 0)) (pull_said (standing self.old) (replicate room 0))) }
+        ensures next { IfOk result (λ a. standing self.new ≡ pulled (standing self.old) (replicate room 0)) }
+        ensures err { OnErr result (standing self.new ≡ standing self.old) }
+    {
+        let mut frame = vec![in heap; 0; room]?;
+        match self.concentrator.pull(&mut frame) {
+            Ok(pulled) => {
+                frame.truncate(pulled.len);
+                Ok(Ok(PulledFrame {
+                    port: pulled.port,
+                    frame,
+                    verdict: pulled.verdict,
+                }))
+            }
+            Err(fault) => Ok(Err(fault)),
+        }
+    }
+
+    // Takes a ticket, and holds it.
+    fn take(&mut self) -> Result<u64, Fault>
+        ensures answer { result ≡ take_said (standing self.old) }
+        ensures next { standing self.new ≡ lent (standing self.old) }
+    {
+        let ticket = self.concentrator.take()?;
+        let number = ticket.number();
+        match self.ticket.replace(ticket) {
+            None => Ok(number),
+            // while one is held none is handed out
+            Some(before) => {
+                let _ = self.concentrator.write(before, &mut []);
+                unreachable!()
+            }
+        }
+    }
+
+    // Writes into a new buffer, with the ticket that is held if it has the number, else with a new one.
+    fn write(
+        &mut self,
+        heap: Global,
+        number: u64,
+        room: usize,
+    ) -> Result<Result<Vec<u8>, Fault>, AllocError>
+        ensures answer { IfOk result (λ a. bytes_by a ≡ frame_by (frame_of (standing self.old) number) (write_said (standing self.old) number room)) }
+        ensures next { IfOk result (λ a. standing self.new ≡ wrote (standing self.old) number room) }
+        ensures err { OnErr result (standing self.new ≡ standing self.old) }
+    {
+        let mut frame = vec![in heap; 0; room]?;
+        let ticket = ticket_for(&mut self.ticket, number);
+        match self.concentrator.write(ticket, &mut frame) {
+            Ok(written) => {
+                frame.truncate(written.len);
+                Ok(Ok(frame))
+            }
+            Err(fault) => Ok(Err(fault)),
+        }
+    }
+
+    // Makes one call, and answers the entry of a journal. Each buffer is new, and as long as the call says.
+    // Without memory for it the call is not made.
+    pub fn make<'a>(&mut self, heap: Global, call: Call<'a>) -> Result<Entry<'a>, AllocError>
+        ensures entry { IfOk result (λ e. entry_of e ≡ due (standing self.old) (request_of call.entry)) }
+        ensures next { IfOk result (λ e. standing self.new ≡ leaves (standing self.old) (request_of call.entry)) }
+        ensures err { OnErr result (standing self.new ≡ standing self.old) }
+    {
+        Ok(match call {
+            Call::Tick { reading, room } => {
+                let mut scratch = vec![in heap; 0; room]?;
+                let answer = self.concentrator.tick(reading, &mut scratch);
+                Entry::Tick {
+                    reading,
+                    room,
+                    answer,
+                }
+            }
+            Call::Admit { port, frame } => Entry::Admit {
+                port,
+                frame,
+                answer: self.concentrator.admit(port, frame),
+            },
+            Call::Pull { room } => Entry::Pull {
+                room,
+                answer: self.pull(heap, room)?,
+            },
+            Call::Take => Entry::Take {
+                answer: self.take(),
+            },
+            Call::Write { ticket, room } => Entry::Write {
+                ticket,
+                room,
+                answer: self.write(heap, ticket, room)?,
+            },
+            Call::Counts => Entry::Counts {
+                answer: self.concentrator.counts(),
+            },
+        })
+    }
+}
