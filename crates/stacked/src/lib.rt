@@ -1,0 +1,7 @@
+// A concentrator under another, as a feed.
+#![tactic(auto)]
+
+mod calls;
+mod stacked;
+
+pub use stacked::Stacked;
