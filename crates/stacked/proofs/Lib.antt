@@ -1,0 +1,3 @@
+mod Drains
+mod Ticks
+mod Takes

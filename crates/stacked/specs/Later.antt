@@ -4,7 +4,7 @@ use Rattle.std.proofs.Common.{sym, ap, ◌∙◌, subst, arith}
 use Rattle.std.proofs.Math.Path.{fun_ext}
 use Rattle.std.proofs.lemmas.Bool.{eqb-true, ne_eqb}
 use Rattle.common.specs.declared.fault.Fault.{Fault}
-use Rattle.feed.specs.Feeds.{Waiting, Tick, Next, Behaviour, after}
+use Rattle.feed.specs.Feeds.{Waiting, Behaviour}
 use Rattle.plan.specs.Ports.{PortOf}
 use Rattle.sample.specs.Samples.{SampleOf}
 use Rattle.combined.specs.Blocks.{Block, Blocks, width_of}
@@ -14,7 +14,7 @@ use Rattle.engine.specs.Calls as on
 use Rattle.engine.proofs.Judged.{accepts, takes}
 use Rattle.concentrator.specs.Wholes.{Whole, moved}
 use Rattle.concentrator.specs.Calls as call
-use Rattle.stacked.specs.Stacks.{pulled, pulls, drained, drained_by, ticked}
+use Rattle.stacked.specs.Stacks.{pulled, pulls, drained_by, ticked}
 use Rattle.stacked.specs.Lengths.{Wide}
 
 -- each frame that is held for a slot is as wide as its port's

@@ -1,14 +1,14 @@
 -- A concentrator under another is a lawful feed.
-use Rattle.std.specs.Prelude.{◌≡◌, ℕ, ◌≤◌, List, [], ◌∷◌, refl}
+use Rattle.std.specs.Prelude.{◌≡◌, ℕ, ◌≤◌, []}
 use Rattle.std.proofs.Common.{sym, ap, ◌∙◌, subst, inl, inr}
-use Rattle.feed.specs.Feeds.{Waiting, Op, Tick, Next, rest, Lawful}
+use Rattle.feed.specs.Feeds.{Op, Tick, Next, rest, Lawful}
 use Rattle.feed.specs.Machines.{Steps, machine_lawful}
 use Rattle.concentrator.specs.Wholes.{Whole}
 use Rattle.stacked.specs.Stacks.{step, waits, stacked}
 use Rattle.stacked.specs.Later.{later_ticked}
 use Rattle.stacked.specs.Reaches.{Reached, later-reached}
 use Rattle.stacked.specs.Ready.{waits_within, waits_carried}
-use Rattle.stacked.specs.Writes.{Lends, Refuses, lends_or_refuses, step_lends, step_refuses, written, more, first_waits, more_wait, written_reached}
+use Rattle.stacked.specs.Writes.{lends_or_refuses, step_lends, step_refuses, first_waits, more_wait, written_reached}
 
 stays : (w : Whole) (o : Op) → Reached w → Reached (step w o)
 stays w (Tick reading) r = later-reached (later_ticked w reading) r

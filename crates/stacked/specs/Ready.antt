@@ -1,8 +1,8 @@
 -- The frames that wait, slot by slot.
-use Rattle.std.specs.Prelude.{◌≡◌, ℕ, zero, suc, ◌+◌, ◌-◌, ◌<◌, ◌≤◌, List, [], ◌∷◌, length, Some, None, Option, refl}
+use Rattle.std.specs.Prelude.{◌≡◌, ℕ, zero, suc, ◌+◌, ◌-◌, ◌<◌, ◌≤◌, List, [], ◌∷◌, Some, None, Option, refl}
 use Rattle.std.proofs.Common.{sym, ap, ◌∙◌, subst, arith}
 use Rattle.common.specs.declared.fault.Fault.{Fault}
-use Rattle.feed.specs.Feeds.{Waiting, Within, within_none, within_more, within_both, Carried, AllCarried}
+use Rattle.feed.specs.Feeds.{Waiting, Within, within_none, within_more, within_both, AllCarried}
 use Rattle.plan.specs.Ports.{body_length}
 use Rattle.combined.specs.Blocks.{Blocks}
 use Rattle.combined.specs.Frames.{slot_frame}

@@ -1,5 +1,5 @@
 -- What a concentrator under another means.
-use Rattle.std.specs.Prelude.{◌≡◌, ℕ, ◌+◌, ◌≤◌, ◌<◌, Bool, true, false, cond, List, length, take, drop, Some, None, Option, refl}
+use Rattle.std.specs.Prelude.{◌≡◌, ℕ, ◌≤◌, ◌<◌, Bool, true, false, cond, List, length, take, drop, Some, None, Option}
 use Rattle.std.proofs.Common.{ap, arith, length-drop}
 use Rattle.std.proofs.lemmas.List.{length-take-le}
 use Rattle.feed.specs.Feeds.{Meaning}
@@ -9,7 +9,7 @@ use Rattle.plan.specs.Ports.{PortOf, body_length}
 use Rattle.plan.specs.Tables.{ports_of}
 use Rattle.cells.specs.declared.cell.Cell.{Cell}
 use Rattle.cells.specs.Cells.{present_in, quality_in}
-use Rattle.combined.specs.Blocks.{Block, Blocks, width_of, start_of, blocks_in}
+use Rattle.combined.specs.Blocks.{Block, width_of, start_of}
 use Rattle.combined.proofs.Spans.{within-body}
 use Rattle.engine.specs.Rings.{cell_in, blocks_by, held_in}
 use Rattle.engine.specs.declared.engine.Engine.{Engine}

@@ -1,20 +1,18 @@
 -- What a next does: it takes and writes the oldest closed slot, or finds none.
-use Rattle.std.specs.Prelude.{◌≡◌, ℕ, suc, ◌+◌, ◌-◌, ◌<◌, ◌≤◌, Bool, true, false, cond, ◌⊎◌, List, [], ◌∷◌, Some, None, Ok, Err, Option, Result, nat_lt, ◌==◌, refl}
-use Rattle.std.proofs.Common.{sym, ap, ◌∙◌, inl, inr, arith}
+use Rattle.std.specs.Prelude.{◌≡◌, ℕ, suc, ◌+◌, ◌-◌, ◌<◌, ◌≤◌, Bool, true, false, cond, ◌⊎◌, List, [], ◌∷◌, Some, None, Ok, Err, Option, nat_lt, ◌==◌, refl}
+use Rattle.std.proofs.Common.{ap, ◌∙◌, inl, inr, arith}
 use Rattle.std.proofs.Math.Path.{fun_ext}
 use Rattle.std.proofs.lemmas.Bool.{cases_lt, lt-ltb, le-ltb, eq-eqb, ne_eqb}
 use Rattle.common.specs.declared.fault.Fault.{Fault}
 use Rattle.common.specs.declared.fault.Fault.TheVariants as fault
-use Rattle.plan.specs.Ports.{PortOf}
-use Rattle.combined.specs.Blocks.{Block, Blocks}
+use Rattle.combined.specs.Blocks.{Block}
 use Rattle.combined.specs.Frames.{slot_length}
-use Rattle.feed.specs.Feeds.{Waiting, Next, rest}
-use Rattle.engine.specs.Boxes.{Box, oldest}
+use Rattle.feed.specs.Feeds.{Waiting, Next}
+use Rattle.engine.specs.Boxes.{oldest}
 use Rattle.engine.specs.Calls as on
 use Rattle.concentrator.specs.Wholes.{Whole, moved}
 use Rattle.concentrator.specs.Calls as call
-use Rattle.stacked.specs.Stacks.{frames, ready, waits, step, wrote_by}
-use Rattle.stacked.specs.Later.{Fits}
+use Rattle.stacked.specs.Stacks.{frames, waits, step, wrote_by}
 use Rattle.stacked.specs.Reaches.{Reached}
 use Rattle.stacked.specs.Ready.{same_frames}
 
