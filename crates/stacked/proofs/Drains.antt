@@ -11,7 +11,7 @@ use Rattle.concentrator.specs.Calls as call
 use Rattle.stacked.specs.Stacks.{pulled, pulls, drained}
 
 -- a pull that changes nothing, however often it is made
-pulls_same : (n : ℕ) (w : Whole) → pulled w ≡ w → pulls n w ≡ w
+pub pulls_same : (n : ℕ) (w : Whole) → pulled w ≡ w → pulls n w ≡ w
 pulls_same zero w e = refl
 pulls_same (suc n) w e = ap (pulls n) e ∙ pulls_same n w e
 

@@ -6,3 +6,4 @@ pub mod Ready
 pub mod Writes
 pub mod Lawfulness
 pub mod Stackings
+pub mod Laws
