@@ -1,25 +1,26 @@
 -- A take, and the write after it, as one step of the machine.
-use Rattle.std.proofs.Common.{◌≡◌, ℕ, ◌≤◌, false, List, length, Ok, Err, Result, sym, ap, ◌∙◌, inl, inr, ltb-false}
+use Rattle.std.proofs.Common.{◌≡◌, ℕ, ◌≤◌, false, List, length, Ok, Err, Result, sym, ap, ◌∙◌, subst, inl, inr, ltb-false}
 use Rattle.common.specs.declared.fault.Fault.{Fault}
 use Rattle.common.specs.declared.fault.Fault.TheVariants.{NothingWaits}
 use Rattle.fields.specs.Fields.{over}
 use Rattle.wire.specs.Frames.{left_by}
 use Rattle.combined.specs.Frames.{slot_length}
 use Rattle.feed.specs.declared.feed.Taken.{Taken}
-use Rattle.feed.specs.Calls.{short, next_said, next_buffer, next_left}
+use Rattle.feed.specs.Calls.{short, pick, first_taken, first_over}
+use Rattle.feed.specs.Feeds.{Next, after}
 use Rattle.concentrator.specs.Wholes.{Whole}
 use Rattle.concentrator.specs.Calls as call
 use Rattle.stacked.specs.Stacks.{waits, stacked}
 use Rattle.stacked.specs.Lengths.{frame-length}
 use Rattle.stacked.specs.Reaches.{Reached}
-use Rattle.stacked.specs.Writes.{Lends, Refuses, lends_or_refuses, wrote-next, write-said, step_lends, first_waits, oldest_of, lent as with_lent, written}
+use Rattle.stacked.specs.Writes.{Lends, Refuses, lends_or_refuses, wrote-next, write-said, step_lends, first_waits, oldest_of, lent as with_lent, written, written_reached}
 
 module _ (port : ℕ) (w : Whole) (r : Reached w) (b : List ℕ) (room : short b ≡ false) where
-  -- what a next answers, and what it leaves of the buffer and of the concentrator
+  -- what the first frame that waits tells: the answer, the buffer, and what is left of the concentrator
   pub record Nexts (a : Result Taken Fault) (b' : List ℕ) (v : Whole) : Type 0 where
-    pub answer : a ≡ next_said (waits port w) b
-    pub frame : b' ≡ next_buffer (waits port w) b
-    pub left : stacked port v ≡ next_left (stacked port w) b
+    pub answer : a ≡ first_taken (waits port w)
+    pub frame : b' ≡ first_over (waits port w) b
+    pub left : stacked port v ≡ pick (waits port w) (after (stacked port w) Next) (stacked port w)
     pub shut : v.shut ≡ w.shut
 
   -- ---- no slot is lent
@@ -31,9 +32,9 @@ module _ (port : ℕ) (w : Whole) (r : Reached w) (b : List ℕ) (room : short b
       let u = refuses e s in
       let none = u.empty port in
       record {
-        answer = rw (room, none);
-        frame = rw (room, none);
-        left = ap (stacked port) (q ∙ u.left) ∙ rw (room, none);
+        answer = rw none;
+        frame = rw none;
+        left = ap (stacked port) (q ∙ u.left) ∙ rw none;
         shut = ap (λ (x : Whole). x.shut) (q ∙ u.left);
       }
 
@@ -58,22 +59,31 @@ module _ (port : ℕ) (w : Whole) (r : Reached w) (b : List ℕ) (room : short b
       pub not_refused : (e : Fault) → Err e ≡ call.write_said u n (length b) → ⊥
       not_refused e s = let t = fits in cc
 
+      -- the write leaves the slot written
+      with_ticket : u ≡ with_lent w
+      with_ticket = lent ∙ lends.left
+
+      wrote : (v : Whole) → v ≡ call.wrote u n (length b) → v ≡ written w
+      wrote v q =
+          q ∙ (ap (λ (x : Whole). call.wrote x n (length b)) with_ticket
+          ∙ (ap (λ k. call.wrote (with_lent w) k (length b)) number ∙ wrote-next w r (length b) enough lends))
+
+      pub wrote_reached : (v : Whole) → v ≡ call.wrote u n (length b) → Reached v
+      wrote_reached v q = subst Reached (sym (wrote v q)) (written_reached w r)
+
       pub one_lent : (len : ℕ) (b' : List ℕ) (v : Whole) → Ok len ≡ call.write_said u n (length b) → b' ≡ left_by (Ok len) (call.frame_of u n) b → v ≡ call.wrote u n (length b) → Nexts (Ok (record { port = record { 0 = port }; len = len })) b' v
       one_lent len b' v s p q =
           let o = oldest_of w in
           let first = first_waits w r port lends in
-          let is : u ≡ with_lent w = lent ∙ lends.left in
           let fit = fits in
           let long : len ≡ slot_length w.setting.ports = cc in
-          let bytes : call.frame_of u n ≡ call.frame_of w o = ap (λ (x : Whole). call.frame_of x n) is ∙ ap (call.frame_of w) number in
-          let after : v ≡ written w =
-          q ∙ (ap (λ (x : Whole). call.wrote x n (length b)) is
-          ∙ (ap (λ k. call.wrote (with_lent w) k (length b)) number ∙ wrote-next w r (length b) enough lends)) in
+          let bytes : call.frame_of u n ≡ call.frame_of w o = ap (λ (x : Whole). call.frame_of x n) with_ticket ∙ ap (call.frame_of w) number in
+          let after : v ≡ written w = wrote v q in
           record {
             answer =
-                rw (room, first)
+                rw first
                 (ap (λ l. Ok (record { port = record { 0 = port }; len = l })) (long ∙ sym (frame-length w.setting.id w.setting.rate o w.setting.ports (w.box.held o) (r.fits.slot o))));
-            frame = rw (room, first) (p ∙ ap (λ bs. over bs b) bytes);
-            left = rw (room, first) (ap (stacked port) (after ∙ sym (step_lends w r lends)));
+            frame = rw first (p ∙ ap (λ bs. over bs b) bytes);
+            left = rw first (ap (stacked port) (after ∙ sym (step_lends w r lends)));
             shut = ap (λ (x : Whole). x.shut) after;
           }

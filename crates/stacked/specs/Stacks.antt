@@ -1,6 +1,7 @@
 -- A concentrator under another, as a machine: the frames of its closed, unwritten slots wait, in order, each with one port.
 use Rattle.std.specs.Prelude.{ℕ, zero, suc, ◌-◌, cond, List, [], ◌∷◌, length, Ok, Err, Result}
 use Rattle.common.specs.declared.fault.Fault.{Fault}
+use Rattle.feed.specs.declared.feed.Taken.{Taken}
 use Rattle.feed.specs.Feeds.{Waiting, Op, Tick, Next, Behaviour}
 use Rattle.feed.specs.Machines.{behaviour}
 use Rattle.engine.specs.Boxes.{Setting, Box, oldest}
@@ -55,3 +56,8 @@ waits port w = on.if_open w.shut [] (ready port w.setting w.box)
 
 abbrev pub stacked : ℕ → Whole → Behaviour
 stacked port w = behaviour step (waits port) w
+
+-- what a next answers by the length of the frame that it wrote
+abbrev pub taken_by : ℕ → Result ℕ Fault → Result Taken Fault
+taken_by port (Ok len) = Ok (record { port = record { 0 = port }; len = len })
+taken_by port (Err e) = Err e

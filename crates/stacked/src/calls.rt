@@ -1,22 +1,12 @@
 ghost use Rattle.concentrator.specs.Wholes.{whole};
 ghost use Rattle.feed.specs.Calls.{next_buffer, next_left, next_said, short, tick_left, tick_said};
 ghost use Rattle.stacked.specs.Stackings.{meaning_of};
-ghost use Rattle.stacked.specs.Stacks.{drained};
-ghost use Rattle.std.specs.Prelude.{◌≡◌, true, false, []};
+ghost use Rattle.std.specs.Prelude.{◌≡◌, true, []};
 
 use crate::stacked::Stacked;
 use common::Fault;
-use concentrator::Concentrator;
 use feed::{Feed, Taken, check_room};
 use policy::Policy;
-
-// Pulls until nothing waits, or no more frames are judged.
-fn drain<F: Feed, P: Policy>(concentrator: &mut Concentrator<F, P>, scratch: &mut [u8])
-    requires room { short scratch.old ≡ false }
-    ensures { whole concentrator.new ≡ drained (whole concentrator.old) }
-{
-    while concentrator.pull(scratch).is_ok() {}
-}
 
 // No call changes why the concentrator is shut: `check` answers it at any time, and so each call says that
 // it stays. A method with a clause of its own repeats those of its trait.
@@ -30,9 +20,7 @@ impl<F: Feed, P: Policy> Feed for Stacked<F, P> {
         ensures shut { (whole self.new.concentrator).shut ≡ (whole self.old.concentrator).shut }
     {
         check_room(scratch)?;
-        if self.concentrator.tick(reading, scratch).is_ok() {
-            drain(&mut self.concentrator, scratch);
-        }
+        self.advance(reading, scratch);
         Ok(())
     }
 
@@ -43,13 +31,10 @@ impl<F: Feed, P: Policy> Feed for Stacked<F, P> {
         ensures shut { (whole self.new.concentrator).shut ≡ (whole self.old.concentrator).shut }
     {
         check_room(buffer)?;
-        let Ok(ticket) = self.concentrator.take() else {
-            return Err(Fault::NothingWaits);
-        };
-        let written = self.concentrator.write(ticket, buffer)?;
+        let len = self.write_first(buffer)?;
         Ok(Taken {
             port: self.port,
-            len: written.len,
+            len,
         })
     }
 }

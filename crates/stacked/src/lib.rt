@@ -3,5 +3,6 @@
 
 mod calls;
 mod stacked;
+mod steps;
 
 pub use stacked::Stacked;

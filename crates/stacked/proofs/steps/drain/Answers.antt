@@ -2,7 +2,7 @@ use Rattle.std.proofs.Common.{◌≡◌, ◌<◌, true, false, ltb, [], length, 
 use Rattle.concentrator.specs.Wholes.{Whole, whole}
 use Rattle.stacked.specs.Stacks.{pulled, drained}
 use Rattle.stacked.proofs.Drains.{as_pulled, stops, goes}
-use Rattle.stacked.proofs.calls.drain.Goals as goal
+use Rattle.stacked.proofs.steps.drain.Goals as goal
 
 pub returns : goal.returns
 returns g c =
