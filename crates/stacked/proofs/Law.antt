@@ -1,14 +1,15 @@
--- A tick that is not refused drains the feed below; one that is refused changes nothing, and one that is shut stays silent.
-use Rattle.std.proofs.Common.{◌≡◌, ℕ, zero, suc, Bool, true, false, ◌⊎◌, List, [], ◌∷◌, length, Some, None, Ok, Option, sym, refl, ap, ◌∙◌, subst, inl, inr}
+-- The machine's steps are the concentrator's calls, a tick drains the feed below, and one that is shut stays silent.
+use Rattle.std.proofs.Common.{◌≡◌, ℕ, zero, suc, Bool, true, false, cond, ◌⊎◌, List, [], ◌∷◌, length, is_ok, Some, None, Ok, sym, refl, ap, ◌∙◌, subst, inl, inr}
 use Rattle.common.specs.declared.fault.Fault.{Fault}
 use Rattle.feed.specs.Feeds.{Waiting, Op, Tick, Next, after, rest, Lawful}
 use Rattle.feed.specs.Lists.{after-lawful}
 use Rattle.engine.specs.Calls as on
 use Rattle.concentrator.specs.Wholes.{Whole, moved}
 use Rattle.concentrator.specs.Calls as call
-use Rattle.stacked.specs.Stacks.{pulled, pulls, drained, drained_by, step, stacked}
-use Rattle.stacked.specs.Laws.{SilentIfShut, SkipsIfRefused, DrainsAll}
-use Rattle.stacked.proofs.Drains.{pulls_same}
+use Rattle.stacked.specs.Stacks.{pulled, pulls, drained, step, stacked}
+use Rattle.stacked.specs.Laws.{SilentIfShut, PullsByCall, TicksByCall, DrainsAll}
+use Rattle.stacked.proofs.Drains.{pulls_same, as_pulled}
+use Rattle.stacked.proofs.Ticks.{accepted, refused}
 
 -- ---- shut
 shut_step : (w : Whole) (f : Fault) (o : Op) → w.shut ≡ Some f → step w o ≡ w
@@ -20,13 +21,16 @@ silent_if_shut port w f e [] = rw e
 silent_if_shut port w f e (o ∷ ops) =
     ap (λ (v : Whole). stacked port v ops) (shut_step w f o e) ∙ silent_if_shut port w f e ops
 
--- ---- refused
-skips-by : (o : Option Fault) (w v : Whole) → v ≡ w → on.if_open o w v ≡ w
-skips-by (Some f) w v e = refl
-skips-by None w v e = e
+-- ---- the calls
+pulls_by_call : PullsByCall
+pulls_by_call w buffer room = sym (as_pulled w buffer room)
 
-skips_if_refused : SkipsIfRefused
-skips_if_refused w reading f e = skips-by w.shut w _ (ap (drained_by w) e)
+ticks_by_call : TicksByCall
+ticks_by_call w reading scratch room = by (is_ok (call.tick_said w reading scratch)) refl
+  where
+    by : (b : Bool) → is_ok (call.tick_said w reading scratch) ≡ b → step w (Tick reading) ≡ cond b (drained (call.ticked w reading scratch)) w
+    by true e = sym (accepted w reading scratch room e)
+    by false e = (refused w reading scratch room e).step
 
 -- ---- drained
 abbrev Dry : Whole → Type 0
@@ -59,5 +63,5 @@ drains_all w reading latest l o e =
     let stepped : step w (Tick reading) ≡ drained v = rw (o, e) in
     subst Dry (sym stepped) (dry (length (v.feed [])) v (after-lawful (Tick latest) l) o refl)
 
-pub laws : SilentIfShut × SkipsIfRefused × DrainsAll
-laws = (silent_if_shut, skips_if_refused, drains_all)
+pub laws : SilentIfShut × PullsByCall × TicksByCall × DrainsAll
+laws = (silent_if_shut, pulls_by_call, ticks_by_call, drains_all)

@@ -22,6 +22,7 @@ pub record Fits (ps : List PortOf) (held : ℕ → Blocks) : Type 0 where
   pub slot : (n : ℕ) → Wide ps (held n)
 
 -- ---- the slots by themselves
+-- none is written, no closed one changes, and the front does not fall
 pub record After (g : Setting) (s t : Box) : Type 0 where
   pub written : t.written ≡ s.written
   pub out : t.out ≡ s.out
@@ -120,6 +121,7 @@ module _ (closing : Closing) (g : Setting) where
       (after_counted (on.placed closing g s q r) (on.verdict_number_of (on.verdict_of r)))
 
 -- ---- the concentrator as a whole
+-- the same of it, and it is open or shut as before
 pub record Later (w v : Whole) : Type 0 where
   pub shut : v.shut ≡ w.shut
   pub setting : v.setting ≡ w.setting

@@ -36,6 +36,7 @@ abbrev pub wrote_by : Whole → Result ℕ Fault → Whole
 wrote_by w (Ok n) = call.wrote (call.lent w) n 1040
 wrote_by w (Err e) = w
 
+-- what a tick and a next leave
 abbrev pub step : Whole → Op → Whole
 step w (Tick r) = ticked w r
 step w Next = wrote_by w (call.take_said w)
@@ -54,6 +55,7 @@ ready port g s = frames port g s (oldest g s) (s.front - oldest g s)
 abbrev pub waits : ℕ → Whole → List Waiting
 waits port w = on.if_open w.shut [] (ready port w.setting w.box)
 
+-- what waits after each sequence of ticks and nexts
 abbrev pub stacked : ℕ → Whole → Behaviour
 stacked port w = behaviour step (waits port) w
 

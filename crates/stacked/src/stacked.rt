@@ -1,7 +1,7 @@
 ghost use Rattle.concentrator.specs.Wholes.{begins, whole};
 ghost use Rattle.engine.specs.Calls.{open_fault, unless_shut};
 ghost use Rattle.plan.specs.Views.{plan_of};
-ghost use Rattle.stacked.specs.Laws.{DrainsAll, SilentIfShut, SkipsIfRefused};
+ghost use Rattle.stacked.specs.Laws.{DrainsAll, PullsByCall, SilentIfShut, TicksByCall};
 ghost use Rattle.std.specs.Prelude.{◌≡◌, ◌%◌, ◌≤◌, None, Ok};
 
 use common::{Fault, Port};
@@ -29,7 +29,7 @@ impl<F: Feed, P: Policy> Stacked<F, P> {
         ensures port { result.port.0 ≡ port.0 % 16 }
         ensures shut { (whole result.concentrator).shut ≡ open_fault (plan_of plan.now) (P.bound policy) reading }
         ensures opens { (whole result.concentrator).shut ≡ None → whole result.concentrator ≡ begins (plan_of plan.now) reading (P.closing policy) (F.meaning feed).waits }
-        ensures laws { SilentIfShut × SkipsIfRefused × DrainsAll }
+        ensures laws { SilentIfShut × PullsByCall × TicksByCall × DrainsAll }
     {
         Stacked {
             concentrator: Concentrator::open(plan, feed, policy, reading),
