@@ -1,0 +1,79 @@
+// Calls of a feed, with what they are to answer.
+use common::{Fault, Port};
+use feed::Feed;
+use fixtures::{from_hex, number};
+use std::alloc::Global;
+use std::process::Abort;
+use std::test::Fail;
+
+// What every buffer is filled with before it is lent.
+const FILL: u8 = 0x55;
+
+fn check_filled(rt: &impl Abort, bytes: &[u8]) {
+    for byte in bytes {
+        assert_eq!(rt; *byte, FILL);
+    }
+}
+
+// A tick with a buffer of the least length.
+pub(crate) fn tick<F: Feed>(feed: &mut F, reading: u64) -> Result<(), Fault> {
+    let mut scratch = [FILL; 1040];
+    feed.tick(reading, &mut scratch)
+}
+
+// That this frame is next, and is put at the front of a buffer whose rest stays as it was.
+pub(crate) fn check_next<F: Feed>(
+    rt: &impl Abort,
+    heap: Global,
+    feed: &mut F,
+    port: u8,
+    frame: &str,
+) -> Result<(), Fail> {
+    let frame = from_hex(heap, frame)?;
+    let mut buffer = [FILL; 1040];
+    let taken = feed.next(&mut buffer)?;
+    assert_eq!(rt; taken.port, Port(port));
+    assert_eq!(rt; taken.len, frame.len());
+    let (front, rest) = buffer
+        .split_at_checked(frame.len())
+        .ok_or("a frame is too long")?;
+    assert!(rt; front == frame.as_slice());
+    check_filled(rt, rest);
+    Ok(())
+}
+
+// That nothing waits, and the buffer stays as it was.
+pub(crate) fn check_idle<F: Feed>(rt: &impl Abort, feed: &mut F) {
+    let mut buffer = [FILL; 1040];
+    assert_eq!(rt; number(feed.next(&mut buffer)), 30);
+    check_filled(rt, &buffer);
+}
+
+// That a buffer of one byte too few is refused by either call, and stays as it was.
+pub(crate) fn check_short<F: Feed>(rt: &impl Abort, feed: &mut F, reading: u64) {
+    let mut buffer = [FILL; 1039];
+    assert_eq!(rt; number(feed.tick(reading, &mut buffer)), 17);
+    check_filled(rt, &buffer);
+    assert_eq!(rt; number(feed.next(&mut buffer)), 17);
+    check_filled(rt, &buffer);
+}
+
+// A tick with this reading, then the frame that is next, if one is, and no other.
+pub(crate) type Step<'a> = (u64, Option<&'a str>);
+
+pub(crate) fn check_steps<F: Feed>(
+    rt: &impl Abort,
+    heap: Global,
+    feed: &mut F,
+    port: u8,
+    steps: &[Step<'_>],
+) -> Result<(), Fail> {
+    for (reading, frame) in steps {
+        tick(feed, *reading)?;
+        if let Some(frame) = *frame {
+            check_next(rt, heap, feed, port, frame)?;
+        }
+        check_idle(rt, feed);
+    }
+    Ok(())
+}

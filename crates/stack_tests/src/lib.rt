@@ -1,0 +1,15 @@
+// Concentrators under others: what waits at one, and two of them under a third.
+#![tactic(auto)]
+
+#[cfg(test)]
+mod build;
+#[cfg(test)]
+mod calls;
+#[cfg(test)]
+mod lagging;
+#[cfg(test)]
+mod shut;
+#[cfg(test)]
+mod slots;
+#[cfg(test)]
+mod upper;

@@ -1,0 +1,47 @@
+// Boxes that are shut: nothing ever waits.
+use crate::build::{FIRST, OPENING, plan, recording};
+use crate::calls::{check_idle, check_short, tick};
+use common::{IdCode, Port};
+use fixtures::number;
+use plan::Plan;
+use policy::Absolute;
+use recorded::Recorded;
+use stacked::Stacked;
+use std::test::Fail;
+
+#[test]
+fn nothing_waits_at_a_shut_one(rt: HostRuntime) -> Result<(), Fail> {
+    let heap = rt.alloc();
+    let built = recording(
+        heap,
+        &[(
+            OPENING,
+            0,
+            "AA02 0016 0065 000003E8 00 000000 000000010002 195D",
+        )],
+    )?;
+    let planned = plan(heap, 7, &[FIRST], &mut [0; 54])?;
+    // plan, reading, wait, and the number of the refusal
+    let cases = [
+        (planned, 4_000_000_000_000_001, 100_000, 14),
+        (Plan::begin(IdCode(7), 1), OPENING, 100_000, 25),
+        (planned, OPENING, 60_000_000, 26),
+    ];
+    for (plan, reading, wait, refusal) in cases {
+        let mut feed = Stacked::open(
+            Port(1),
+            &plan,
+            Recorded::over(built.bytes()),
+            Absolute::new(wait),
+            reading,
+        );
+        assert_eq!(rt; number(feed.check()), refusal);
+        check_short(&rt, &mut feed, OPENING);
+        for clock in [OPENING, OPENING + 1_000_000, u64::MAX] {
+            tick(&mut feed, clock)?;
+            check_idle(&rt, &mut feed);
+        }
+        assert_eq!(rt; number(feed.check()), refusal);
+    }
+    Ok(())
+}

@@ -1,0 +1,101 @@
+// Two boxes under a third, which waits 200 milliseconds for a slot.
+use crate::build::{FIRST, Lower, OPENING, SECOND, lower, plan, recording};
+use common::{Fault, IdCode};
+use concentrator::Concentrator;
+use feed::Joined;
+use fixtures::from_hex;
+use plan::Plan;
+use policy::Absolute;
+use std::alloc::Global;
+use std::process::Abort;
+use std::test::Fail;
+
+type Upper<'a> = Concentrator<Joined<Lower<'a>, Lower<'a>>, Absolute>;
+
+// Ticks, and pulls until nothing waits: how many frames were accepted.
+fn advance(upper: &mut Upper<'_>, reading: u64) -> Result<u32, Fault> {
+    let mut buffer = [0; 1040];
+    upper.tick(reading, &mut buffer)?;
+    for accepted in 0..10 {
+        match upper.pull(&mut buffer) {
+            Ok(pulled) => pulled.verdict?,
+            Err(Fault::NothingWaits) => return Ok(accepted),
+            Err(fault) => return Err(fault),
+        }
+    }
+    Ok(10)
+}
+
+// That this frame is the next that is written.
+fn check_written(
+    rt: &impl Abort,
+    heap: Global,
+    upper: &mut Upper<'_>,
+    frame: &str,
+) -> Result<(), Fail> {
+    let frame = from_hex(heap, frame)?;
+    let ticket = upper.take()?;
+    let mut out = [0; 1040];
+    let written = upper.write(ticket, &mut out)?;
+    assert!(rt; &out[..written.len] == frame.as_slice());
+    Ok(())
+}
+
+#[test]
+fn two_boxes_stand_under_a_third(rt: HostRuntime) -> Result<(), Fail> {
+    let heap = rt.alloc();
+    let left = recording(
+        heap,
+        &[
+            (
+                1_000_020_000,
+                0,
+                "AA02 0016 0065 000003E8 00 000000 000000010002 195D",
+            ),
+            (
+                1_001_020_000,
+                0,
+                "AA02 0016 0065 000003E9 00 000000 000000050006 5D50",
+            ),
+        ],
+    )?;
+    let right = recording(
+        heap,
+        &[(
+            1_000_030_000,
+            0,
+            "AA02 0016 0066 000003E8 02 000000 000000030004 2A54",
+        )],
+    )?;
+    let mut first = [0; 54];
+    let mut second = [0; 54];
+    let lower_first = plan(heap, 7, &[FIRST], &mut first)?;
+    let lower_second = plan(heap, 8, &[SECOND], &mut second)?;
+    // the configurations that the two publish are those of the lines of the third
+    let mut both = Plan::begin(IdCode(9), 1);
+    let mut buffer = [0; 84];
+    both.add(&first, &mut buffer)?;
+    both.add(&second, &mut buffer)?;
+    let feed = Joined {
+        first: lower(0, &lower_first, left.bytes()),
+        second: lower(1, &lower_second, right.bytes()),
+    };
+    let mut upper = Concentrator::open(&both, feed, Absolute::new(200_000), OPENING);
+    assert_eq!(rt; advance(&mut upper, 1_000_025_000)?, 1);
+    assert_eq!(rt; advance(&mut upper, 1_000_035_000)?, 1);
+    check_written(
+        &rt,
+        heap,
+        &mut upper,
+        "AA02 001C 0009 000003E8 02 000000 000000010002 000000030004 53BE",
+    )?;
+    // the second box closes the slot 1001 without a frame
+    assert_eq!(rt; advance(&mut upper, 1_001_050_000)?, 1);
+    assert_eq!(rt; advance(&mut upper, 1_001_100_000)?, 1);
+    check_written(
+        &rt,
+        heap,
+        &mut upper,
+        "AA02 001C 0009 000003E9 0F 000000 000000050006 800080008000 2C52",
+    )
+}

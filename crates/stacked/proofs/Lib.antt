@@ -1,0 +1,4 @@
+mod Drains
+mod Ticks
+mod Takes
+mod Law
