@@ -18,7 +18,7 @@ FILES = sorted(ROOT.glob("crates/*/src/**/*.rt"))
 LINES = {
     1: r"^\s*(pub(\(crate\))? )?enum |^\s*(pub(\(crate\))? )?\w+: bool,|\b(\w+) => \d+,|unwrap_or\(0\)|, 0\)$|-> \(\w+, Option<",
     3: r"\bwhile |\bloop \{|\bfor \w+ in [^{]*\.\.|\+= 1;|= \w+ \+ 1;|saturating_add\(1\)|^\s+(at|next|size|front|end|low|rest|last|reading) \+?= ",
-    4: r"\.0 [!=]= |[!=]= \S+\.0\b|^impl.* (fmt::Display|PartialEq|From<.*|TryFrom<.*|Clone|Ord|PartialOrd) for |let \w+ = [\w.()]+\.0;|-> &'static str|fn (name|words|number|of|to_bytes)\(|parse::<|digit",
+    4: r"\.0 [!=]= |[!=]= \S+\.0\b|^impl.* (fmt::Display|PartialEq|From<.*|TryFrom<.*|Clone|Ord|PartialOrd) for |let \w+ = [\w.()]+\.0;|-> &'static str|fn (name|words|number|of|to_bytes)\(|parse::<|digit|\bas [iu](8|16|32|64|128|size)\b",
     6: r"^\s+(pub(\(crate\))? )?\w+: \[[^;]+; \w+\],|\b(count|len|at|room|size|waiting): (usize|u16|u64)\b",
     7: r"\bkind: \w+,|match self\.kind|enum (Kind|Setting)|pending|\bdyn |: fn\(",
 }

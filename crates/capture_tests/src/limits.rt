@@ -4,9 +4,10 @@ use fixtures::Recording;
 use std::alloc::{AllocError, Global};
 use std::test::Fail;
 
+// Stated here again, as a test gives its own values.
 const LAST: u64 = 4_000_000_000_000_000;
 
-// The number of records. A refusal's number and 100 more, so that one column tells both.
+// The number of records. A refusal's number and 100 more: as a `Result` the tables would give other values.
 fn outcome(bytes: &[u8]) -> usize {
     match Capture::open(bytes) {
         Ok(capture) => count_records(capture),

@@ -38,9 +38,7 @@ fn records_come_in_their_order(rt: HostRuntime) -> Result<(), Fail> {
         assert_eq!(rt; record.reading, reading);
         assert_eq!(rt; record.port, Port(port));
         assert_eq!(rt; record.frame.len(), len);
-        for byte in record.frame {
-            assert_eq!(rt; *byte, fill);
-        }
+        assert!(rt; record.frame.iter().all(|byte| *byte == fill));
     }
     // the end is lasting
     assert!(rt; capture.next_record().is_none());

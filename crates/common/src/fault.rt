@@ -40,7 +40,8 @@ pub enum Fault {
 }
 
 impl Fault {
-    // The refusal's fixed number. A method and no `From`: the number names the case, and two cases share 9.
+    // The refusal's fixed number. By a `match`, as two cases share 9; and no `From`, since the method's
+    // name says what the number is.
     pub fn number(self) -> u8
         ensures { result ≡ number_of self }
     {
@@ -86,7 +87,7 @@ impl Fault {
         }
     }
 
-    // A few plain words for a person. By hand: a derive would write each number again in its text.
+    // A few plain words for a person. By hand: a derive would take the number as an argument at every case.
     fn words(self) -> &'static str {
         match self {
             Fault::Short => "fewer than 16 bytes",

@@ -5,17 +5,17 @@ ghost use Rattle.config.specs.Formats.{encoded};
 #[derive(Clone, Copy, PartialEq, Eq, Debug)]
 pub struct Format(pub u16);
 
-// An encoding that a bit of the FORMAT word tells of.
+// An encoding that a bit of the FORMAT word tells of, by the value of the bit.
 #[derive(Clone, Copy, PartialEq, Eq, Debug)]
 pub enum Encoding {
     // Phasors are magnitude and angle.
-    PolarPhasors,
+    PolarPhasors = 1,
     // Phasors are floats.
-    FloatPhasors,
+    FloatPhasors = 2,
     // Analogs are floats.
-    FloatAnalogs,
+    FloatAnalogs = 4,
     // FREQ and DFREQ are floats.
-    FloatFreqs,
+    FloatFreqs = 8,
 }
 
 impl Format {
@@ -23,12 +23,6 @@ impl Format {
     pub fn has(self, encoding: Encoding) -> bool
         ensures { result ≡ encoded encoding self.0 }
     {
-        let bit = match encoding {
-            Encoding::PolarPhasors => 1,
-            Encoding::FloatPhasors => 2,
-            Encoding::FloatAnalogs => 4,
-            Encoding::FloatFreqs => 8,
-        };
-        self.0 / bit % 2 == 1
+        self.0 / encoding as u16 % 2 == 1
     }
 }

@@ -75,6 +75,7 @@ fn read_stations(parts: &[u8], count: u16) -> Result<Stations, Fault>
     let mut rest = parts;
     for k in 0..count {
         let station = Station::read(rest, k)?;
+        // At most 32 parts are read, so there is room, and the answer that there was is let go.
         stations.push(station);
         rest = &rest[station.part_len()..];
     }

@@ -26,7 +26,7 @@ fn console(rt: &HostRuntime) -> anyhow::Result<()> {
     run(rt, lines.as_slice())
 }
 
-// As `listing` has it, which the console does without.
+// As `listing` has it: a crate for one function of six lines would be no plainer.
 fn main(rt: HostRuntime) -> ExitCode {
     let Err(trouble) = console(&rt) else {
         return ExitCode::SUCCESS;

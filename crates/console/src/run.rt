@@ -1,9 +1,8 @@
 use crate::line::Line;
 use crate::session::Session;
-use std::fmt;
 use std::io::Write;
 
-// Prints a line that is no call as it stands.
+// Prints a line that is no call as it stands: it may be no text.
 fn print_remark(rt: &HostRuntime, bytes: &[u8]) -> anyhow::Result<()> {
     let mut out = rt.stdout();
     out.write_all(bytes)?;
@@ -11,23 +10,17 @@ fn print_remark(rt: &HostRuntime, bytes: &[u8]) -> anyhow::Result<()> {
     Ok(())
 }
 
-// Prints a line of text.
-fn print_text<T: fmt::Display>(rt: &HostRuntime, text: &T) -> anyhow::Result<()> {
-    let line = format!(in rt.alloc(); "{text}\n")?;
-    rt.stdout().write_all(line.as_bytes())?;
-    Ok(())
-}
-
 // Makes the call of a line, if it is one, and prints the answer.
 fn answer<'a>(rt: &HostRuntime, session: &mut Session<'a>, line: &'a Line) -> anyhow::Result<()> {
     match line {
-        Line::Remark(bytes) => print_remark(rt, bytes.as_slice()),
+        Line::Remark(bytes) => print_remark(rt, bytes.as_slice())?,
         Line::Call(Ok(call)) => match session.perform(call) {
-            Ok(answer) => print_text(rt, &answer),
-            Err(trouble) => print_text(rt, &trouble),
+            Ok(answer) => println!(rt; "{answer}")?,
+            Err(trouble) => println!(rt; "{trouble}")?,
         },
-        Line::Call(Err(reason)) => print_text(rt, reason),
+        Line::Call(Err(reason)) => println!(rt; "{reason}")?,
     }
+    Ok(())
 }
 
 // Makes all calls, one after the other, and prints their answers.

@@ -3,6 +3,7 @@ use crate::number::{decimal, sixteen};
 use crate::reason::Reason;
 use common::{IdCode, Port};
 use std::alloc::Global;
+use std::num::TryFromIntError;
 use std::str::Split;
 
 // The longest buffer that a call may ask for.
@@ -39,22 +40,26 @@ impl<'a> Words<'a> {
         decimal(self.next()?)
     }
 
-    pub fn rate(&mut self) -> Result<u16, Reason> {
-        Ok(u16::try_from(self.number()?)?)
+    // A number of a smaller type.
+    fn small<T: TryFrom<u64, Error = TryFromIntError>>(&mut self) -> Result<T, Reason> {
+        Ok(T::try_from(self.number()?)?)
     }
 
-    // `rate`, `id` and `port` differ in the type that they answer: a generic one would be no shorter.
+    pub fn rate(&mut self) -> Result<u16, Reason> {
+        self.small()
+    }
+
     pub fn id(&mut self) -> Result<IdCode, Reason> {
-        Ok(IdCode(u16::try_from(self.number()?)?))
+        Ok(IdCode(self.small()?))
     }
 
     pub fn port(&mut self) -> Result<Port, Reason> {
-        Ok(Port(u8::try_from(self.number()?)?))
+        Ok(Port(self.small()?))
     }
 
     // The length of a buffer.
     pub fn room(&mut self) -> Result<usize, Reason> {
-        let room = usize::try_from(self.number()?)?;
+        let room = self.small()?;
         if room > MOST_ROOM {
             return Err(Reason::OutOfRange);
         }

@@ -4,5 +4,6 @@ use Rattle.std.specs.List.{range_with_len}
 use Rattle.std.proofs.lemmas.List.FromFn.{get_or-map-range_with_len}
 use Rattle.crc.specs.CheckWord.{table_rule}
 
-pub rule : (xs : List ℕ) (i : ℕ) → i < 256 → xs ≡ map table_rule (range_with_len 0 256) → get_or xs i 0 ≡ table_rule i
-rule xs i h e = ap (λ ws. get_or ws i 0) e ∙ get_or-map-range_with_len table_rule 0 256 i i 0 h (zero-add i)
+pub rule : (xs : List ℕ) (i j : ℕ) → j < 256 → i ≡ j → xs ≡ map table_rule (range_with_len 0 256) → get_or xs i 0 ≡ table_rule j
+rule xs i j h same e =
+    ap (λ k. get_or xs k 0) same ∙ (ap (λ ws. get_or ws j 0) e ∙ get_or-map-range_with_len table_rule 0 256 j j 0 h (zero-add j))

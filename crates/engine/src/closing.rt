@@ -28,12 +28,10 @@ impl Engine {
     {
         let front = self.front;
         let end = self.terms.rate.last_slot_by(self.latest) + 1;
-        for slot in (front..end).rev() {
-            if self.is_ripe(policy, slot) {
-                return slot + 1;
-            }
-        }
-        front
+        (front..end)
+            .rev()
+            .find(|slot| self.is_ripe(policy, *slot))
+            .map_or(front, |slot| slot + 1)
     }
 
     // The first slot from `from` on that is not complete.
@@ -44,12 +42,9 @@ impl Engine {
         ensures up { from ≤ result }
     {
         let end = self.terms.rate.last_slot_by(self.latest + EARLIEST) + 1;
-        for slot in from..end {
-            if !self.is_complete(slot) {
-                return slot;
-            }
-        }
-        from.max(end)
+        (from..end)
+            .find(|slot| !self.is_complete(*slot))
+            .unwrap_or(from.max(end))
     }
 
     // Moves the front past the highest ripe slot, and then past each complete one.

@@ -9,9 +9,7 @@ use std::test::Fail;
 const FILL: u8 = 0x55;
 
 fn check_filled(rt: &impl Abort, bytes: &[u8]) {
-    for byte in bytes {
-        assert_eq!(rt; *byte, FILL);
-    }
+    assert!(rt; bytes.iter().all(|byte| *byte == FILL));
 }
 
 // A tick with a buffer of the least length.

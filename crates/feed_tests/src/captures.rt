@@ -6,6 +6,7 @@ use std::alloc::Global;
 use std::process::Abort;
 use std::test::Fail;
 
+// Stated here again, as a test gives its own values.
 const LAST: u64 = 4_000_000_000_000_000;
 
 // The number that the check of a capture answers, 0 if it is sound.

@@ -37,6 +37,7 @@ fn read_body(body: &[u8], id: IdCode, rate: u16) -> Result<Record, Fault>
 fn read_record(bytes: &[u8], rate: u16) -> Result<Record, Fault>
     ensures { port_by result ≡ asked rate bytes.now }
 {
+    // The sender stands in the header, and the body in the frame: a `Frame` is its body alone.
     let header = Header::read(bytes)?;
     let body = Frame::read(bytes)?.config2()?;
     read_body(body, header.id, rate)
@@ -109,11 +110,12 @@ impl Plan {
         ensures plan { plan_of self.new ≡ add_plan (plan_of self.old) (Ok (port_of request.now.port)) }
     {
         let number = self.table.len();
+        // There is room, so the answer that there was is let go.
         self.table.push(request.port);
         self.stations += request.port.stations.len();
         self.body += data_len(&request.port.stations);
         self.parts += request.parts.len();
-        // A plan has at most 16 ports: `try_from` would add a case that never comes.
+        // By `as`, which is itself proved to lose nothing, and is shorter than a proved `unwrap`.
         Port(number as u8)
     }
 

@@ -1,4 +1,4 @@
-ghost use Rattle.std.specs.Prelude.{◌≡◌, ◌≤◌, map, length};
+ghost use Rattle.std.specs.Prelude.{◌≡◌, ◌≤◌, map, length, slice_get};
 ghost use Rattle.plan.specs.Find.{find_in, place_in, place_of};
 ghost use Rattle.plan.specs.Tables.{port_of, ports_of};
 ghost use Rattle.std.specs.Option.{option_map};
@@ -31,13 +31,20 @@ impl Plan {
         self.table.as_slice()
     }
 
+    // The record of a port, if the plan has it.
+    pub fn port(&self, port: Port) -> Option<&Record>
+        ensures { option_map (λ r. port_of r.now) result ≡ slice_get (ports_of self.now.table) port.0 }
+    {
+        self.ports().get(usize::from(port.0))
+    }
+
     // The first station with the code, by port and then by place, or none.
     pub fn find(&self, id: IdCode) -> Option<Place>
         ensures { option_map place_of result ≡ find_in (ports_of self.now.table) id.0 0 }
     {
         self.ports().iter().enumerate().find_map(|(number, port)| {
             let station = position(port.stations.as_slice(), id)?;
-            // A plan has at most 16 ports: `try_from` would add a case that never comes.
+            // By `as`, which is itself proved to lose nothing, and is shorter than a proved `unwrap`.
             let port = Port(number as u8);
             Some(Place { port, station })
         })

@@ -19,7 +19,8 @@ impl Bench {
         Ok(Bench { heap, plan, buffer })
     }
 
-    // Adds a frame: the number of its port. A refusal's number and 100 more, so that one column tells both.
+    // Adds a frame: the number of its port. A refusal's number and 100 more: as a `Result` the tables
+    // would give other values.
     pub(crate) fn add_frame(&mut self, frame: &[u8]) -> u8 {
         match self.plan.add(frame, self.buffer.as_mut_slice()) {
             Ok(port) => port.0,

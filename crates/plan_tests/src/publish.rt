@@ -6,6 +6,7 @@ use fixtures::{from_hex, number};
 use std::test::Fail;
 use wire::seal;
 
+// Stated here again, as a test gives its own values.
 const LAST: u64 = 4_000_000_000_000_000;
 
 #[test]
@@ -24,9 +25,7 @@ fn an_empty_plan(rt: HostRuntime) -> Result<(), Fail> {
         bench.resize(room)?;
         assert_eq!(rt; number(bench.publish(reading)), expected);
     }
-    for byte in bench.buffer.as_slice() {
-        assert_eq!(rt; *byte, 0x55);
-    }
+    assert!(rt; bench.buffer.iter().all(|byte| *byte == 0x55));
     Ok(())
 }
 

@@ -1,7 +1,7 @@
 ghost use Rattle.shift.specs.Shifts.{moved as moved_to, shifted, target as target_of};
 ghost use Rattle.std.specs.Prelude.{◌≡◌};
 
-use fields::{put_u32, u32_at};
+use fields::u32_at;
 use wire::{Frame, seal};
 
 // Where SOC stands in every frame.
@@ -30,8 +30,7 @@ pub(crate) fn shift(frame: &mut [u8], seconds: i32)
     ensures { frame.new ≡ shifted seconds frame.old }
 {
     if let Some(soc) = target(frame, seconds) {
-        // a sound frame has room for SOC
-        let _ = put_u32(frame, SOC, soc);
+        frame[SOC..SOC + 4].copy_from_slice(&soc.to_be_bytes());
         seal(frame);
     }
 }

@@ -2,11 +2,11 @@
 use slots::Rate;
 use std::test::Fail;
 
+// Stated here again, as a test gives its own values.
 const LAST: u64 = 4_000_000_000_000_000;
 
-// The rate, or the number that is none.
-fn rate(frames: u16) -> Result<Rate, u16> {
-    Rate::new(frames).ok_or(frames)
+fn rate(frames: u16) -> Result<Rate, &'static str> {
+    Rate::new(frames).ok_or("no such rate")
 }
 
 #[test]

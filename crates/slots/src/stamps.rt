@@ -31,7 +31,7 @@ impl Rate {
     pub fn slot_count(self, slot: u64) -> u32
         ensures { result ≡ count_of (frames_of self) slot }
     {
-        // A count is below a second's millionths: `try_from` would add a case that never comes.
+        // By `as`, which is itself proved to lose nothing, and is shorter than a proved `unwrap`.
         (slot % self.frames * SECOND / self.frames) as u32
     }
 

@@ -1,7 +1,7 @@
 ghost use Rattle.wire.specs.Frames.{answered, body_seen, checks, classified, config_body_of, data_body_of, seen};
 ghost use Rattle.std.specs.Prelude.{◌≡◌, ◌≤◌, Ok, length};
 
-use crate::header::Header;
+use crate::header::{HEADER_LEN, Header};
 use crate::kind::FrameType;
 use common::Fault;
 use crc::check_word;
@@ -36,7 +36,7 @@ impl<'a> Frame<'a> {
         if !is_checked(bytes) {
             return Err(Fault::CheckWord);
         }
-        let body = &bytes[14..bytes.len() - 2];
+        let body = &bytes[HEADER_LEN..bytes.len() - 2];
         match header.kind {
             FrameType::Data => Ok(Frame::Data(body)),
             FrameType::Config2 => Ok(Frame::Config2(body)),

@@ -3,8 +3,12 @@ ghost use Rattle.wire.specs.Laws.{HeaderAgain};
 ghost use Rattle.std.specs.Prelude.{◌≡◌};
 
 use crate::kind::{FrameType, Version, read_sync, sync_bytes};
+use crate::write::OVERHEAD;
 use common::{Fault, IdCode};
 use fields::{u8_at, u16_at, u24_at, u32_at};
+
+// Bytes of a header.
+pub const HEADER_LEN: usize = 14;
 
 // When a frame was sampled: seconds since 1970 UTC, the time quality byte, and the 24-bit count of
 // the sender's time base.
@@ -15,7 +19,7 @@ pub struct TimeTag {
     pub count: u32,
 }
 
-// The 14 bytes that begin every frame.
+// What the 14 bytes say that begin every frame.
 #[derive(Clone, Copy, PartialEq, Eq, Hash, Debug)]
 pub struct Header {
     pub kind: FrameType,
@@ -30,7 +34,7 @@ impl Header {
     pub fn read(bytes: &[u8]) -> Result<Header, Fault>
         ensures { result ≡ header_of bytes.now }
     {
-        if bytes.len() < 16 {
+        if bytes.len() < OVERHEAD {
             return Err(Fault::Short);
         }
         let (kind, version) = read_sync(bytes[0], bytes[1])?;
@@ -47,7 +51,7 @@ impl Header {
     }
 
     // The 14 bytes of the header. Of the count its low 24 bits are written.
-    pub fn to_bytes(&self) -> [u8; 14]
+    pub fn to_bytes(&self) -> [u8; HEADER_LEN]
         ensures value { result ≡ header_bytes self.now }
         ensures header_again { HeaderAgain }
     {

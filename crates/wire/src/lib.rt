@@ -9,6 +9,6 @@ mod tests;
 mod write;
 
 pub use frame::Frame;
-pub use header::{Header, TimeTag};
+pub use header::{HEADER_LEN, Header, TimeTag};
 pub use kind::{FrameType, Version};
 pub use write::{OVERHEAD, seal, write_frame};

@@ -2,7 +2,7 @@ ghost use Rattle.wire.specs.Frames.{frame_bytes, header_for, left_by, resealed, 
 ghost use Rattle.wire.specs.Laws.{ToldAgain};
 ghost use Rattle.std.specs.Prelude.{◌≡◌, length};
 
-use crate::header::{Header, TimeTag};
+use crate::header::{HEADER_LEN, Header, TimeTag};
 use crate::kind::{FrameType, Version};
 use common::{Fault, IdCode};
 use crc::check_word;
@@ -46,8 +46,8 @@ pub fn write_frame(
         id,
         time,
     };
-    out[..14].copy_from_slice(&header.to_bytes());
-    out[14..end - 2].copy_from_slice(body);
+    out[..HEADER_LEN].copy_from_slice(&header.to_bytes());
+    out[HEADER_LEN..end - 2].copy_from_slice(body);
     seal(&mut out[..end]);
     Ok(end)
 }

@@ -1,35 +1,32 @@
-use Rattle.std.proofs.Common.{◌≡◌, ◌+◌, ◌<◌, ◌≤◌, sym, ◌∙◌, inl, inr, arith}
-use Rattle.std.proofs.lemmas.Bool.{cases_lt}
+use Rattle.std.proofs.Common.{◌+◌, ◌-◌, ◌*◌, ◌≤◌, not, ◌∙◌, refl, arith, rules, tests}
+use Rattle.std.proofs.lemmas.Iterator.{YieldsList-from_range}
+use Rattle.std.proofs.lemmas.Iterator.Search.{find_from_yields_List}
+use Rattle.slots.specs.Slots.{frames_of}
 use Rattle.engine.specs.Boxes.{upto}
 use Rattle.engine.specs.Closing.{complete}
 use Rattle.engine.specs.Views.{setting_of, box_of}
-use Rattle.engine.proofs.Fronts.{beyond-more, beyond-stop, beyond_end}
+use Rattle.engine.proofs.Fronts.{near, told-beyond, beyond-within}
 use Rattle.engine.proofs.engine.Engine.past_complete.Goals as goal
-
-pub loop-slot-preserved : goal.loop-slot-preserved
-loop-slot-preserved c =
-    let s = c.args.self.now in
-    let g = setting_of s in
-    let end = c.last_slot_by-end.ensures.answer in
-    let more : c.loop-slot.slot < upto g (s.latest + 100000) = omega (arith, end) in
-    sym (beyond-more (complete g (box_of s)) (upto g (s.latest + 100000)) c.loop-slot.slot more (sym c.if-not-is_complete.ensures)) ∙ c.loop-slot.invariant
-
-pub returns-then-not-is_complete-clause-value : goal.returns-then-not-is_complete-clause-value
-returns-then-not-is_complete-clause-value c =
-    let s = c.args.self.now in
-    let g = setting_of s in
-    sym (beyond-stop (complete g (box_of s)) (upto g (s.latest + 100000)) c.loop-slot.slot (sym c.if-not-is_complete.ensures)) ∙ c.loop-slot.invariant
 
 pub returns-clause-value : goal.returns-clause-value
 returns-clause-value c =
     let s = c.args.self.now in
     let g = setting_of s in
+    let t = complete g (box_of s) in
+    let f = c.args.from in
     let k = upto g (s.latest + 100000) in
     let end = c.last_slot_by-end.ensures.answer in
-    elim (cases_lt c.args.from k) [
-      | inl l ↦
-          (let last : c.max.result ≡ c.loop-slot.slot = omega (arith, end) in
-          let past : k ≤ c.loop-slot.slot = omega (arith, end) in
-          last ∙ (sym (beyond_end (complete g (box_of s)) k c.loop-slot.slot past) ∙ c.loop-slot.invariant))
-      | inr h ↦ (let first : c.max.result ≡ c.args.from = omega (arith, end) in first ∙ sym (beyond_end (complete g (box_of s)) k c.args.from h))
-    ]
+    let found =
+    find_from_yields_List (λ n. not (t n)) _ _ c.find.result c.find.ensures.ran (YieldsList-from_range f (c.last_slot_by-end.result + 1) (k - f) refl (omega (arith, end))) (λ x b q r. search (rules, tests)) in
+    c.unwrap_or.ensures ∙ told-beyond t c.find.result (k - f) f c.max.result found (omega (arith, end, c.max.ensures))
+
+pub returns-clause-near : goal.returns-clause-near
+returns-clause-near c =
+    let s = c.args.self.now in
+    let g = setting_of s in
+    let f = c.args.from in
+    let k = upto g (s.latest + 100000) in
+    let value = returns-clause-value c in
+    let within = beyond-within (complete g (box_of s)) (k - f) f in
+    let low : k ≤ 4000000001 * frames_of s.terms.rate = near (frames_of s.terms.rate) (s.latest + 100000) s.terms.rate.some (omega (arith, s.time)) in
+    omega (arith, value, within, low, c.requires)
