@@ -10,7 +10,7 @@ use Rattle.runs.specs.Given.{requests_of, entries_of, standing}
 use Rattle.runs.specs.Kept.{Kept}
 use Rattle.runs.specs.Standing.{Opening, Reached}
 use Rattle.runs.proofs.Followed.{kept_by}
-use Rattle.runs.proofs.Listed.{left-next, answers-next, runs-on, stopped}
+use Rattle.runs.proofs.Listed.{left-next, answers-next, runs-on, left-by, stopped}
 use Rattle.runs.proofs.host.Host.run.Goals as goal
 
 pub loop-call-preserved : goal.loop-call-preserved
@@ -39,15 +39,14 @@ returns-clause-goes_on g c o before r =
 pub returns-clause-law : goal.returns-clause-law
 returns-clause-law g c o before r = kept_by o (returns-clause-goes_on g c o before r)
 
+-- where the list ends early
 pub returns-in_err-entry-clause-err : goal.returns-in_err-entry-clause-err
 returns-in_err-entry-clause-err g c =
     let same : standing c.make.new.self ≡ standing c.loop-call.self = search rules in
-    stopped c.from_residual.result (record { made = c.loop-call.call-index; so = same ∙ c.loop-call.invariant.left })
+    stopped c.from_residual.result (left-by (standing c.args.self.now) c.args.calls.now (standing c.make.new.self) c.loop-call.call-index (same ∙ c.loop-call.invariant.left))
 
 pub returns-in_err-push-clause-err : goal.returns-in_err-push-clause-err
 returns-in_err-push-clause-err g c =
     stopped c.from_residual-in_err-push.result
-    (record {
-      made = c.loop-call.call-index + 1;
-      so = left-next (standing c.args.self.now) c.args.calls.now c.loop-call.call-index _ (search rules) (search rules) (standing c.loop-call.self) (standing c.make.new.self) c.loop-call.invariant.left c.in_ok-entry.ensures.next;
-    })
+    (left-by (standing c.args.self.now) c.args.calls.now (standing c.make.new.self) (c.loop-call.call-index + 1)
+    (left-next (standing c.args.self.now) c.args.calls.now c.loop-call.call-index _ (search rules) (search rules) (standing c.loop-call.self) (standing c.make.new.self) c.loop-call.invariant.left c.in_ok-entry.ensures.next))
