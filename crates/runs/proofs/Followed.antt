@@ -1,11 +1,12 @@
 -- Runs of the concentrator follow the machine, and so keep the law.
-use Rattle.std.proofs.Common.{◌≡◌, ℕ, ◌+◌, ◌++◌, List, [], length, None, sym, refl, ap, ◌∙◌, subst, append-nil, arith}
+use Rattle.std.proofs.Common.{◌≡◌, ℕ, ◌++◌, List, None, sym, refl, ap, ◌∙◌, subst}
 use Rattle.engine.specs.Boxes as E
 use Rattle.engine.specs.Calls.{open_setting}
-use Rattle.concentrator.specs.Wholes.{Whole}
+use Rattle.concentrator.specs.Wholes.{Whole, begins}
 use Rattle.laws.specs.Setting.{Setting}
-use Rattle.laws.specs.Journal.{Past, start, ◌▹◌, Call, Journal, tally, refused, ops}
-use Rattle.laws.specs.Answers.{Right}
+use Rattle.feed.specs.Feeds.{Behaviour}
+use Rattle.laws.specs.Journal.{Past, start, ◌▹◌, ◌≼◌, all, more, Call, Journal, ops}
+use Rattle.laws.specs.Answers.{Right, more-due}
 use Rattle.laws.specs.Machine as M
 use Rattle.laws.proofs.Stand.{runs, keeps}
 use Rattle.runs.specs.Settings.{Opened, setting}
@@ -72,32 +73,55 @@ module _ (o : Opening) where
         left_so = ap (λ (x : Whole). leaves x r) z.left_so ∙ left e o.closing o.bound o.reading facts s r;
       }
 
-  -- ---- the law of each run
-  pub kept_by : {J : Journal} {w : Whole} → Reached o J w → Kept o J w
-  kept_by {J} {w} t =
+  pub right_by : {J : Journal} {w : Whole} → Reached o J w → Right h o.feed J
+  right_by {J} t =
       let z = runs_as t in
-      let law = runs h in
-      let right : Right h o.feed J = subst (λ (K : Journal). Right h o.feed K) (sym z.journal) ((keeps h).right o.feed z.calls) in
-      let fed : (os : _) → w.feed os ≡ o.feed (ops h J ++ os) =
-      λ os.
-      ap (λ (x : Whole). x.feed os) z.left_so ∙ (keeps h).feed o.feed z.calls os
-      ∙ ap (λ (K : Journal). o.feed (ops h K ++ os)) (sym z.journal) in
-      let waits : length (w.feed []) ≡ length (o.feed (ops h J)) = ap length (fed [] ∙ ap o.feed (append-nil (ops h J))) in
-      record {
-        answered = right;
-        order = record {
-          orderly = law.order.orderly o.feed J right;
-          kept = law.order.kept o.feed J right;
-          framed = law.order.framed o.feed J right;
-          bound = law.order.bound J;
-        };
-        account = record {
-          sums = law.account.sums o.feed o.lawful J right ∙ ap (λ k. tally J 0 + refused J + k) (sym waits);
-          told = law.account.told o.feed J right;
-          fed = fed;
-          grows = λ r len. let l = law.account.grows o.feed o.lawful J r len in omega (arith, l, waits);
-        };
-        agreement = λ C K r. law.agreement o.feed C J K right r;
-        laid = λ n x. lays e n x;
-        prompt = law.prompt o.feed J right;
-      }
+      subst (λ (K : Journal). Right h o.feed K) (sym z.journal) ((keeps h).right o.feed z.calls)
+
+  -- what was due at the end was due at each moment before
+  before : (B : Behaviour) {K J : Journal} → K ≼ J → Right h B J → Right h B K
+  before B all r = r
+  before B (more l) (more-due r d) = before B l r
+
+  -- this opening over another's feed
+  abbrev pub over : Opening → Opening
+  over other = record { plan = o.plan; closing = o.closing; bound = o.bound; reading = o.reading; feed = other.feed; lawful = other.lawful; opens = o.opens }
+
+  reached_over : (other : Opening) → other.plan ≡ o.plan → other.closing ≡ o.closing → other.reading ≡ o.reading → {K : Journal} {v : Whole} → Reached other K v → Reached (over other) K v
+  reached_over other p c r opened =
+      subst (λ (w : Whole). Reached (over other) start w)
+      (sym (ap (λ x. begins x other.reading other.closing other.feed) p ∙ (ap (λ x. begins o.plan x other.closing other.feed) r ∙ ap (λ x. begins o.plan o.reading x other.feed) c)))
+      opened
+  reached_over other p c r (called t q) = called (reached_over other p c r t) q
+
+right_as : (o other : Opening) → other.plan ≡ o.plan → other.closing ≡ o.closing → other.reading ≡ o.reading → {K : Journal} {v : Whole} → Reached other K v → Right (setting_in o) other.feed K
+right_as o other p c r t = right_by (over o other) (reached_over o other p c r t)
+
+-- ---- the law of each run
+pub kept_by : (o : Opening) {J : Journal} {w : Whole} → Reached o J w → Kept o J w
+kept_by o {J} {w} t =
+    let z = runs_as o t in
+    let g = setting_in o in
+    let law = runs g in
+    let right = right_by o t in
+    record {
+      answered = right;
+      order = record {
+        orderly = law.order.orderly o.feed J right;
+        kept = law.order.kept o.feed J right;
+        framed = law.order.framed o.feed J right;
+        bound = λ K n l. law.order.bound K n;
+      };
+      account = record {
+        sums = λ K l. law.account.sums o.feed o.lawful K (before o o.feed l right);
+        grows = λ K r len l. law.account.grows o.feed o.lawful K r len;
+        told = law.account.told o.feed J right;
+        fed = λ os.
+            ap (λ (x : Whole). x.feed os) z.left_so
+            ∙ ((keeps g).feed o.feed z.calls os
+            ∙ ap (λ (K : Journal). o.feed (ops g K ++ os)) (sym z.journal));
+      };
+      agreement = λ other K v r plan closing reading p. law.agreement o.feed other.feed J K right (right_as o other plan closing reading r) p;
+      laid = λ n x. lays (open_setting o.plan o.reading) n x;
+      prompt = λ K l. law.prompt o.feed K (before o o.feed l right);
+    }

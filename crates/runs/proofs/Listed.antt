@@ -1,5 +1,5 @@
 -- Lists of calls, one call more.
-use Rattle.std.proofs.Common.{◌≡◌, ℕ, ◌+◌, ◌<◌, List, [], ◌∷◌, ◌++◌, map, length, take, get_or, Ok, Err, Result, OnErr, refl, sym, ap, ◌∙◌}
+use Rattle.std.proofs.Common.{◌≡◌, ℕ, ◌+◌, ◌<◌, List, [], ◌∷◌, ◌++◌, map, length, take, get_or, Ok, Err, Result, OnErr, IfOk, refl, sym, ap, ◌∙◌, subst}
 use Rattle.std.proofs.lemmas.List.{map_more, map-append}
 use Rattle.concentrator.specs.Wholes.{Whole}
 use Rattle.laws.specs.Journal.{Journal, ◌▹◌}
@@ -10,7 +10,9 @@ use Rattle.runs.specs.Requests.{Request, leaves}
 use Rattle.runs.specs.Entries.{EntryOf, due, all_due, left_by}
 use Rattle.runs.specs.Events.{event_of, events_of}
 use Rattle.runs.specs.Given.{request_of, requests_of, entry_of}
-use Rattle.runs.specs.Standing.{Opening, Reached, called}
+use Rattle.runs.specs.Kept.{Kept}
+use Rattle.runs.specs.Standing.{Opening, Reached, called, LeftBySome}
+use Rattle.runs.proofs.Followed.{kept_by}
 
 pub due-more : (w : Whole) (rs : List Request) (r : Request) → all_due w (rs ++ (r ∷ [])) ≡ all_due w rs ++ (due (left_by w rs) r ∷ [])
 due-more w [] r = refl
@@ -43,7 +45,31 @@ module _ (w : Whole) (cs : List Call) (k : ℕ) (x : Call) (h : k < length cs) (
       ∙ (ap (λ (u : EntryOf). all_due w (requests_of (take k cs)) ++ (u ∷ [])) (due_now ∙ ap (λ (u : Whole). due u (request_of x)) so)
       ∙ (sym (due-more w (requests_of (take k cs)) (request_of x)) ∙ ap (all_due w) (sym one-more)))))
 
+pub left-by : (w : Whole) (cs : List Call) (left : Whole) (k : ℕ) → left ≡ left_by w (requests_of (take k cs)) → LeftBySome w cs left
+left-by w cs left k so = record {
+  made = k;
+  so = so;
+  goes_on = λ o before t.
+      subst (λ (v : Whole). Reached o (onto before (events_of (all_due w (requests_of (take k cs))))) v) (sym so)
+      (runs-on o before w (requests_of (take k cs)) t);
+}
+
 -- what holds anyhow holds on an error
 pub stopped : {A E P : Type 0} (r : Result A E) → P → OnErr r P
 stopped (Ok x) p = tt
 stopped (Err e) p = p
+
+-- a run goes on with a call that was made, and keeps the law
+module _ {E : Type 0} (w left : Whole) (q : Request) where
+  pub one-reached : (r : Result Entry E) → IfOk r (λ e. entry_of e ≡ due w q) → IfOk r (λ e. left ≡ leaves w q)
+      → IfOk r (λ e. (o : Opening) (before : Journal) → Reached o before w → Reached o (before ▹ event_of (entry_of e)) left)
+  one-reached (Ok e) entry next =
+      λ o before t.
+      subst (λ (x : EntryOf). Reached o (before ▹ event_of x) left) (sym entry)
+      (subst (λ (v : Whole). Reached o (before ▹ event_of (due w q)) v) (sym next) (called t q))
+  one-reached (Err x) entry next = tt
+
+  pub one-kept : (r : Result Entry E) → IfOk r (λ e. entry_of e ≡ due w q) → IfOk r (λ e. left ≡ leaves w q)
+      → IfOk r (λ e. (o : Opening) (before : Journal) → Reached o before w → Kept o (before ▹ event_of (entry_of e)) left)
+  one-kept (Ok e) entry next = λ o before t. kept_by o (one-reached (Ok e) entry next o before t)
+  one-kept (Err x) entry next = tt

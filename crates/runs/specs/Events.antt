@@ -18,7 +18,7 @@ abbrev pub tick_event : ℕ → ℕ → Result Unit the_fault.Fault → Event
 tick_event r len (Ok u) = Ticked r len
 tick_event r len (Err f) = Refused (Ticking r len) (number f)
 
--- 28 is the one refusal of an admit that takes no frame
+-- 28 is the one refusal with which an open concentrator takes no frame
 abbrev pub admit_event : ℕ → List ℕ → Result Unit the_fault.Fault → Event
 admit_event q b (Ok u) = Took Host q b 0
 admit_event q b (Err f) = cond (number f == 28) (Refused (Admitting q b) 28) (Took Host q b (number f))

@@ -1,5 +1,5 @@
 -- What calls and entries, as the program has them, stand for.
-use Rattle.std.specs.Prelude.{ℕ, List, map, replicate, Ok, Err, Result}
+use Rattle.std.specs.Prelude.{ℕ, Bool, true, false, List, map, replicate, Ok, Err, Result}
 use Rattle.std.specs.declared.vec.Vec.{Vec}
 use Rattle.common.specs.declared.fault.Fault.{Fault}
 use Rattle.engine.specs.Views.{counts_by}
@@ -26,6 +26,15 @@ request_of call.Counts = counting
 
 abbrev pub requests_of : List Call → List Request
 requests_of cs = map request_of cs
+
+-- a call to which a buffer is lent
+abbrev pub takes_room : Call → Bool
+takes_room (call.Tick r room) = true
+takes_room (call.Admit q frame) = false
+takes_room (call.Pull room) = true
+takes_room call.Take = false
+takes_room (call.Write n room) = true
+takes_room call.Counts = false
 
 -- ---- what an entry stands for
 abbrev pub pulled_by : Result PulledFrame Fault → Result PulledOf Fault

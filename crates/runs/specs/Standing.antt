@@ -8,11 +8,12 @@ use Rattle.concentrator.specs.Wholes.{Whole, begins}
 use Rattle.laws.specs.Setting as law
 use Rattle.laws.specs.Journal.{Journal, start, ◌▹◌}
 use Rattle.runs.specs.Settings.{setting}
+use Rattle.laws.specs.Machine.{onto}
 use Rattle.runs.specs.Opens.{Opens, opened-facts}
 use Rattle.runs.specs.Requests.{Request, leaves}
 use Rattle.runs.specs.declared.call.Call.{Call}
-use Rattle.runs.specs.Entries.{due, left_by}
-use Rattle.runs.specs.Events.{event_of}
+use Rattle.runs.specs.Entries.{due, all_due, left_by}
+use Rattle.runs.specs.Events.{event_of, events_of}
 use Rattle.runs.specs.Given.{requests_of}
 
 -- an opening that no refusal shuts: a plan, a policy's closings and bound, a reading, and what a feed means
@@ -44,7 +45,8 @@ pub record JustOpened (p : PlanOf) (closing : Closing) (bound reading : ℕ) (fe
   pub over : opening.feed ≡ feed
   pub reached : Reached opening start w
 
--- a concentrator that is left once some of the calls were made, from the first on
+-- a concentrator that is left once some of the calls were made, from the first on; a run goes on from there
 pub record LeftBySome (w : Whole) (cs : List Call) (left : Whole) : Type 0 where
   pub made : ℕ
   pub so : left ≡ left_by w (requests_of (take made cs))
+  pub goes_on : (o : Opening) (before : Journal) → Reached o before w → Reached o (onto before (events_of (all_due w (requests_of (take made cs))))) left

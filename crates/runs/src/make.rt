@@ -1,8 +1,12 @@
 ghost use Rattle.concentrator.specs.Calls.{frame_of, lent, pull_buffer, pull_said, pulled, take_said, write_said, wrote};
 ghost use Rattle.runs.specs.Entries.{due, frame_by, front_by};
-ghost use Rattle.runs.specs.Given.{bytes_by, entry_of, pulled_by, request_of, standing};
+ghost use Rattle.laws.specs.Journal.{Journal, ◌▹◌};
+ghost use Rattle.runs.specs.Events.{event_of};
+ghost use Rattle.runs.specs.Given.{bytes_by, entry_of, pulled_by, request_of, standing, takes_room};
+ghost use Rattle.runs.specs.Kept.{Kept};
+ghost use Rattle.runs.specs.Standing.{Opening, Reached};
 ghost use Rattle.runs.specs.Requests.{leaves};
-ghost use Rattle.std.specs.Prelude.{◌≡◌, IfOk, OnErr, replicate};
+ghost use Rattle.std.specs.Prelude.{◌≡◌, false, IfOk, IsOk, OnErr, replicate};
 
 use crate::call::Call;
 use crate::entry::{Entry, PulledFrame};
@@ -73,12 +77,12 @@ impl<F: Feed, P: Policy> Host<F, P> {
         }
     }
 
-    // Makes one call, and answers the entry of a journal. Each buffer is new, and as long as the call says.
-    // Without memory for it the call is not made.
-    pub fn make<'a>(&mut self, heap: Global, call: Call<'a>) -> Result<Entry<'a>, AllocError>
+    // Makes the call on the concentrator, in a new buffer where it is lent one.
+    fn perform<'a>(&mut self, heap: Global, call: Call<'a>) -> Result<Entry<'a>, AllocError>
         ensures entry { IfOk result (λ e. entry_of e ≡ due (standing self.old) (request_of call.entry)) }
         ensures next { IfOk result (λ e. standing self.new ≡ leaves (standing self.old) (request_of call.entry)) }
         ensures err { OnErr result (standing self.new ≡ standing self.old) }
+        ensures roomless { takes_room call.entry ≡ false → IsOk result }
     {
         Ok(match call {
             Call::Tick { reading, room } => {
@@ -111,5 +115,18 @@ impl<F: Feed, P: Policy> Host<F, P> {
                 answer: self.concentrator.counts(),
             },
         })
+    }
+
+    // Makes one call, and answers the entry of a journal. Each buffer is new, and as long as the call says.
+    // Without memory for it the call is not made.
+    pub fn make<'a>(&mut self, heap: Global, call: Call<'a>) -> Result<Entry<'a>, AllocError>
+        ensures entry { IfOk result (λ e. entry_of e ≡ due (standing self.old) (request_of call.entry)) }
+        ensures next { IfOk result (λ e. standing self.new ≡ leaves (standing self.old) (request_of call.entry)) }
+        ensures law { IfOk result (λ e. (o : Opening) (before : Journal) → Reached o before (standing self.old) → Kept o (before ▹ event_of (entry_of e)) (standing self.new)) }
+        ensures goes_on { IfOk result (λ e. (o : Opening) (before : Journal) → Reached o before (standing self.old) → Reached o (before ▹ event_of (entry_of e)) (standing self.new)) }
+        ensures err { OnErr result (standing self.new ≡ standing self.old) }
+        ensures roomless { takes_room call.entry ≡ false → IsOk result }
+    {
+        self.perform(heap, call)
     }
 }

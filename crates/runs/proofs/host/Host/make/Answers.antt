@@ -1,13 +1,9 @@
-use Rattle.std.proofs.Common.{sym, ap, ◌∙◌}
-use Rattle.concentrator.specs.Wholes.{whole}
-use Rattle.runs.specs.Tickets.{ticket_out}
-use Rattle.runs.proofs.Outs.{tick-out, admit-out}
+use Rattle.runs.specs.Given.{request_of, standing}
+use Rattle.runs.proofs.Listed.{one-kept, one-reached}
 use Rattle.runs.proofs.host.Host.make.Goals as goal
 
-pub invariant_of-self : goal.invariant_of-self
-invariant_of-self g c =
-    record { held = c.args.self.now.held ∙ (sym (tick-out (whole c.args.self.now.concentrator) c.in-Tick.reading c.deref_mut.result.now) ∙ ap ticket_out (sym c.tick-answer.ensures.next)) }
+pub returns-clause-goes_on : goal.returns-clause-goes_on
+returns-clause-goes_on g c = one-reached (standing c.args.self.now) (standing c.perform.new.self) (request_of c.args.call) c.perform.result c.perform.ensures.entry c.perform.ensures.next
 
-pub invariant_of-self-in-Admit : goal.invariant_of-self-in-Admit
-invariant_of-self-in-Admit g c =
-    record { held = c.args.self.now.held ∙ (sym (admit-out (whole c.args.self.now.concentrator) c.in-Admit.port.0 c.in-Admit.frame.now) ∙ ap ticket_out (sym c.admit.ensures.next)) }
+pub returns-clause-law : goal.returns-clause-law
+returns-clause-law g c = one-kept (standing c.args.self.now) (standing c.perform.new.self) (request_of c.args.call) c.perform.result c.perform.ensures.entry c.perform.ensures.next

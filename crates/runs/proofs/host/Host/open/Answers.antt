@@ -1,4 +1,4 @@
-use Rattle.std.proofs.Common.{rules, ◌≡◌, ℕ, ◌+◌, ◌≤◌, Option, sym, refl, ◌∙◌, subst}
+use Rattle.std.proofs.Common.{rules, ◌≡◌, ℕ, ◌+◌, ◌≤◌, Option, sym, refl, subst}
 use Rattle.plan.specs.Views.{plan_of}
 use Rattle.concentrator.specs.Wholes.{Whole}
 use Rattle.laws.specs.Journal.{start}
@@ -17,7 +17,7 @@ returns-clause-opens g c shut =
       reading = c.args.reading;
       feed = (g.F.Feed.meaning c.args.feed).waits;
       lawful = (g.F.Feed.meaning c.args.feed).lawful;
-      opens = record { unrefused = sym c.open.ensures.shut ∙ shut; from = from; within = within };
+      opens = record { unrefused = search rules; from = from; within = within };
     } in
     record {
       opening = o;
