@@ -48,6 +48,7 @@ impl<'a> Session<'a> {
             return Ok(Err(Trouble::NoBox));
         };
         let mut journal = host.run(self.heap, &[call])?;
+        // a run of one call has one entry
         let Some(entry) = journal.pop() else {
             unreachable!()
         };
