@@ -2,24 +2,16 @@
 # Runs the console over every list of calls in a folder and compares what it prints with the answers
 # beside it, byte for byte.
 #
-# usage: tools/compare_console.sh [--all] DIR
+# usage: tools/compare_console.sh DIR
 #
-# DIR has NAME.in, a list of calls, and NAME.out, its answers. A list with a call or a feed that the
-# console does not have (lower, counts, stacked) is left out, unless --all is given. The console is
-# crates/console/out/console, or what CONSOLE names.
+# DIR has NAME.in, a list of calls, and NAME.out, its answers. The console is crates/console/out/console,
+# or what CONSOLE names.
 set -u
 
-usage() {
-    echo "usage: tools/compare_console.sh [--all] DIR" >&2
+if [ $# -ne 1 ] || [ ! -d "$1" ]; then
+    echo "usage: tools/compare_console.sh DIR" >&2
     exit 2
-}
-
-all=no
-if [ "${1-}" = --all ]; then
-    all=yes
-    shift
 fi
-[ $# -eq 1 ] && [ -d "$1" ] || usage
 lists=$1
 console=${CONSOLE-$(dirname "$0")/../crates/console/out/console}
 if [ ! -x "$console" ]; then
@@ -32,14 +24,9 @@ trap 'rm -f "$printed"' EXIT
 
 agree=0
 differ=0
-skipped=0
 for list in "$lists"/*.in; do
     [ -f "$list" ] || continue
     name=$(basename "$list" .in)
-    if [ $all = no ] && grep -Eq '^(lower|counts)$|^open .* stacked ' "$list"; then
-        skipped=$((skipped + 1))
-        continue
-    fi
     if ! "$console" <"$list" >"$printed"; then
         echo "differs: $name: the console failed"
         differ=$((differ + 1))
@@ -50,5 +37,5 @@ for list in "$lists"/*.in; do
         differ=$((differ + 1))
     fi
 done
-echo "$agree agree, $differ differ, $skipped left out"
+echo "$agree agree, $differ differ"
 [ $differ -eq 0 ] && [ $agree -gt 0 ]

@@ -164,11 +164,14 @@ group("Without a plan and without a box there is nothing to call.",
       add(CONFIG_ONE, "no plan"),
       ("find 1001", "no plan"),
       ("open abs 0 silent 0", "no plan"),
+      ("open abs 0 stacked 0 abs 0 - 0 0", "no plan"),
+      ("lower", "no plan"),
       tick(0, "no box"),
       admit(0, b"", "no box"),
       ("pull 1040", "no box"),
       ("take", "no box"),
-      ("write 0 66000", "no box"))
+      ("write 0 66000", "no box"),
+      ("counts", "no box"))
 
 PUBLISHED = frame(0xAA32, 77, 1234567890, 0, 123456,
                   big(1_000_000, 4) + big(2, 2) + ONE + TWO + big(50, 2))
@@ -966,6 +969,275 @@ group("""A capture under shifts: 5 seconds for the line 0, and 61 back for the l
       ("pull 1040", "30"),
       *written(50000, combined(1000, 0, 3, BODY_ONE, BODY_TWO)),
       ("take", "23"))
+
+# ---- counts
+
+group("""Counts: the frames accepted, the slots written, and each number that frames were refused by with how many
+         they were. A call that is refused itself counts as nothing, and a new box counts anew.""",
+      *TWO_PORTS,
+      ("open abs 40000 silent 1000000000", "0"),
+      ("counts", "0 0 0"),
+      ("pull 1040", "30"),
+      tick(1060000001, "14"),
+      ("take", "23"),
+      ("counts", "0 0 0"),
+      admit(0, one(1000, 0), "0"),
+      admit(0, one(1000, 0, OTHER_ONE), "21"),
+      admit(0, one(1000, 0), "21"),
+      ("counts", "0 1 0 21:2"),
+      admit(2, b"", "15"),
+      admit(0, b"", "1"),
+      admit(0, bytes(16), "2"),
+      admit(0, words("AA02") + bytes(14), "3"),
+      admit(0, damaged(one(1000, 0)), "4"),
+      admit(0, CONFIG_ONE, "5"),
+      admit(0, two(1000, 0), "6"),
+      admit(0, data(101, 1000, 0, BODY_ONE + b"\0"), "9"),
+      admit(0, one(1000, 1000000), "7"),
+      admit(0, one(1000, 10000), "8"),
+      admit(0, one(1000, 120000), "10"),
+      admit(0, one(999, 980000), "20"),
+      ("counts", "0 1 0 1:1 2:1 3:1 4:1 5:1 6:1 7:1 8:1 9:1 10:1 15:1 20:1 21:2"),
+      # 29 slots are closed, and the slot 32 past the first of them is open
+      tick(1000600000),
+      admit(1, two(1000, 640000), "22"),
+      ("take", "0 50000"),
+      ("write 50000 39", "17"),
+      ("counts", "0 1 0 1:1 2:1 3:1 4:1 5:1 6:1 7:1 8:1 9:1 10:1 15:1 20:1 21:2 22:1"),
+      *written(50000, combined(1000, 0, 0, BODY_ONE, GONE_TWO)),
+      admit(1, two(1000, 640000), "0"),
+      ("counts", "0 2 1 1:1 2:1 3:1 4:1 5:1 6:1 7:1 8:1 9:1 10:1 15:1 20:1 21:2 22:1"),
+      ("open abs 540001 silent 1000000000", "26"),
+      ("counts", "26"),
+      (f"open abs 40000 capture {text(capture((1000000000, 1, two(1000, 0)), (1000000000, 1, two(1000, 0))))}"
+       " 1000000000", "0"),
+      ("counts", "0 0 0"),
+      tick(1000000000),
+      pull(1, two(1000, 0), 0),
+      pull(1, two(1000, 0), 21),
+      ("counts", "0 1 0 21:1"))
+
+# ---- boxes under others
+
+
+def place(number):
+    """Second and count of a slot at 50 frames a second."""
+    return number // 50, 20000 * (number % 50)
+
+
+def stacked(port, policy, records, lower_reading, reading, upper="abs 100000"):
+    return (f"open {upper} stacked {port} {policy} {text(records)} {lower_reading} {reading}", "0")
+
+
+def below(number, quality, *bodies):
+    """The frame of a slot of the lower box 88."""
+    return data(88, *place(number), b"".join(bodies), quality)
+
+
+def above(number, quality, *bodies):
+    """The frame of a slot of the upper box 77."""
+    return data(77, *place(number), b"".join(bodies), quality)
+
+
+group("Without a lower line a box under another has the plan of the upper one. Its line counts modulo 16.",
+      *TWO_PORTS,
+      stacked(19, "abs 0", b"", 1000000000, 1000000000),
+      pull(3, above(50000, 15, GONE_ONE, GONE_TWO), 15),
+      ("pull 1040", "30"),
+      # it was opened with a plan that begins here and is still empty
+      *BEGIN,
+      ("pull 1040", "30"),
+      ("open abs 0 stacked 19 abs 0 - 1000000000 1000000000", "25"))
+
+LOWER = ("plan 88 50", "0"), add(CONFIG_ONE, "0 0"), add(CONFIG_TWO, "0 1"), ("lower", "0")
+UPPER = BEGIN + (add(config(88, 50, ONE, TWO), "0 0"), add(CONFIG_BARE, "0 1"))
+
+PILED = capture(
+    (1000000000, 0, one(1000, 0, quality=2)),
+    (1000005000, 1, two(1000, 0, quality=1)),
+    (1000020000, 0, one(1000, 20000, OTHER_ONE)),
+    (1000070000, 1, two(1000, 20000)))
+
+group("""Frames through two boxes: the lower one, 88, puts those of the devices 101 and 102 together, and the upper one,
+         77, has the frames that it writes as those of a line, beside the device 103.""",
+      *LOWER,
+      *UPPER,
+      stacked(0, "abs 30000", PILED, 1000000000, 1000000000),
+      ("pull 1040", "30"),
+      tick(1000000000),
+      ("pull 1040", "30"),
+      # complete below
+      tick(1000005000),
+      ("pull 1039", "17"),
+      pull(0, below(50000, 2, BODY_ONE, BODY_TWO), 0),
+      ("pull 1040", "30"),
+      # complete above
+      admit(1, bare(1000, 0, quality=4), "0"),
+      *written(50000, above(50000, 4, BODY_ONE, BODY_TWO, BODY_BARE)),
+      # its wait ends below
+      tick(1000049999),
+      ("pull 1040", "30"),
+      ("tick 1000050000 1039", "17"),
+      ("pull 1040", "30"),
+      tick(1000050000),
+      pull(0, below(50001, 0, OTHER_ONE, GONE_TWO), 0),
+      ("pull 1040", "30"),
+      # the frame of the slot before is too late below, and that is not told here
+      tick(1000070000),
+      pull(0, below(50002, 15, GONE_ONE, GONE_TWO), 0),
+      ("pull 1040", "30"),
+      admit(1, bare(1000, 40000), "0"),
+      ("take", "23"),
+      tick(1000119999),
+      ("take", "23"),
+      # its wait ends above, and the slot after it is complete
+      tick(1000120000),
+      pull(0, below(50003, 15, GONE_ONE, GONE_TWO), 0),
+      *written(50001, above(50001, 0, OTHER_ONE, GONE_TWO, GONE_BARE)),
+      *written(50002, above(50002, 15, GONE_ONE, GONE_TWO, BODY_BARE)),
+      ("take", "23"),
+      pull(0, below(50004, 15, GONE_ONE, GONE_TWO), 0),
+      ("pull 1040", "30"),
+      ("counts", "0 7 3"))
+
+group("""The lower plan is a copy: it stays as it was through later plan and add lines, until the next lower one. A box keeps
+         its lower plan as well as its own.""",
+      ("plan 88 50", "0"),
+      add(CONFIG_ONE, "0 0"),
+      ("lower", "0"),
+      add(CONFIG_TWO, "0 1"),
+      *BEGIN,
+      add(config(88, 50, ONE), "0 0"),
+      add(CONFIG_BARE, "0 1"),
+      stacked(0, "abs 0", b"", 1000000000, 1000000000),
+      ("plan 88 50", "0"),
+      ("lower", "0"),
+      pull(0, below(50000, 15, GONE_ONE), 0),
+      admit(1, bare(1000, 0), "0"),
+      *written(50000, above(50000, 15, GONE_ONE, BODY_BARE)),
+      *UPPER,
+      # the lower plan is the empty one now
+      stacked(0, "abs 0", b"", 1000000000, 1000000000),
+      tick(1000000000),
+      ("pull 1040", "30"))
+
+EARLY = capture((1000110000, 0, one(1000, 120000)))
+
+group("""A lower box that comes out shut is silent, and so is one that the clock leaps too far for; neither is refused.
+         One whose clock is ahead takes frames by it, and they may be too early above (10).""",
+      ("plan 88 50", "0"),
+      add(CONFIG_ONE, "0 0"),
+      ("lower", "0"),
+      *BEGIN,
+      add(config(88, 50, ONE), "0 0"),
+      stacked(0, "abs 540001", EARLY, 1000000000, 1000000000),
+      tick(1000110000),
+      ("pull 1040", "30"),
+      stacked(0, "abs 0", EARLY, 4000000000000001, 1000000000),
+      tick(1000110000),
+      ("pull 1040", "30"),
+      # a tick of 60,000,001 below; the slot that closed on opening still waits
+      stacked(0, "abs 0", EARLY, 940000000, 1000000000),
+      tick(1000000001),
+      pull(0, below(47000, 15, GONE_ONE), 20),
+      ("pull 1040", "30"),
+      tick(1000110000),
+      ("pull 1040", "30"),
+      # 60,000,000 below: 3,000 slots are closed
+      stacked(0, "abs 0", EARLY, 940000000, 1000000000),
+      tick(1000000000),
+      pull(0, below(47000, 15, GONE_ONE), 20),
+      pull(0, below(47001, 15, GONE_ONE), 20),
+      ("counts", "0 0 0 20:2"),
+      stacked(0, "abs 0", EARLY, 1000110000, 1000000000),
+      ("pull 1040", "30"),
+      tick(1000000000),
+      pull(0, below(50006, 0, BODY_ONE), 10),
+      ("pull 1040", "30"))
+
+# ---- two boxes that wait for each other
+
+# The box 88 has the device 102, and the box 77 as that was while it had the device 101 alone. The box 77 has the device
+# 101, the box 88 as that is now, and the device 103. Frames are 10 milliseconds on their way.
+RING_BELOW = ("plan 88 50", "0"), add(CONFIG_TWO, "0 0"), add(config(77, 50, ONE), "0 1")
+RING_ABOVE = ONE_PORT + (add(config(88, 50, TWO, ONE), "0 1"), add(CONFIG_BARE, "0 2"))
+SLOTS = range(8)
+
+
+def written_below(k):
+    return below(50000 + k, 0, BODY_TWO, GONE_ONE)
+
+
+def written_above(k):
+    return above(50000 + k, 0, BODY_ONE, BODY_TWO, GONE_ONE, GONE_BARE)
+
+
+def at(k, later):
+    """The reading so long after the stamp of the slot numbered k."""
+    return 1000000000 + 20000 * k + later
+
+
+def ring_records():
+    """What comes to the box 88: the frames of the device, and those that the box 77 writes."""
+    records = [(at(k, 10000), 0, two(1000, 20000 * k)) for k in SLOTS]
+    records += [(at(k, 70000), 1, written_above(k)) for k in SLOTS]
+    return capture(*sorted(records))
+
+
+def ring_above():
+    """The calls on the box 77: a frame comes to it every 10 milliseconds, once both sources have begun."""
+    rows = []
+    for k in range(SLOTS[-1] + 3):
+        rows.append(tick(at(k, 10000)))
+        if k in SLOTS:
+            rows.append(admit(0, one(1000, 20000 * k), "0"))
+        rows.append(("take", "23"))
+        rows.append(tick(at(k, 20000)))
+        # the slot before closes below now, and the one two before that closes here
+        if k - 1 in SLOTS:
+            rows.append(pull(1, written_below(k - 1), 0))
+        rows.append(("pull 1040", "30"))
+        if k - 2 in SLOTS:
+            rows += written(50000 + k - 2, written_above(k - 2))
+    return rows
+
+
+def ring_below():
+    """The calls on the box 88: frames come to it every 20 milliseconds."""
+    rows = []
+    for k in SLOTS:
+        rows.append(tick(at(k, 10000)))
+        rows.append(admit(0, two(1000, 20000 * k), "0"))
+        if k - 3 in SLOTS:
+            rows.append(admit(1, written_above(k - 3), "9"))
+        rows.append(("take", "23"))
+        rows.append(tick(at(k, 20000)))
+        if k - 1 in SLOTS:
+            rows += written(50000 + k - 1, written_below(k - 1))
+    return rows
+
+
+group("""Two boxes that name each other as a source, 88 and 77, each with a device of its own. The box 77 waits for a device
+         too that never sends. Frames come to it every 10 milliseconds: with a wait of 50 milliseconds that began anew at
+         each of them it would never write a slot. The wait counts from a slot's first frame, and no slot stays open for
+         longer than 60 milliseconds after its stamp: each is written then, in turn, whatever still comes.""",
+      *RING_BELOW,
+      ("lower", "0"),
+      *RING_ABOVE,
+      stacked(1, "rel 30000 60000", ring_records(), 1000000000, 1000000000, upper="rel 50000 60000"),
+      *ring_above(),
+      ("take", "23"),
+      ("counts", "0 16 8"))
+
+group("""The other box of the two: what 77 writes comes to 88, by turns with the frames of its device. A frame of 77 would
+         have to have that of 88 in it, and that of 88 the one of 77, so one of them knows the other by an older
+         configuration, and refuses its frames for their length (9). Here too each slot is written 40 milliseconds
+         after its stamp, which is 30 after its first frame, though frames come every 20.""",
+      *RING_BELOW,
+      ("open rel 30000 60000 silent 1000000000", "0"),
+      *ring_below(),
+      ("take", "23"),
+      ("counts", "0 8 7 9:5"))
 
 
 def main():

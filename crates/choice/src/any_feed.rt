@@ -4,20 +4,26 @@ ghost use Rattle.feed.specs.Maps.{through};
 ghost use Rattle.feed.specs.Silent.{silent as nothing};
 ghost use Rattle.recorded.specs.Recordings.{meaning_of};
 ghost use Rattle.shift.specs.Lines.{by_line};
+ghost use Rattle.stacked.specs.Stackings.{meaning_of as meaning_under};
 ghost use Rattle.std.specs.Prelude.{◌≡◌};
 
+use crate::AnyPolicy;
 use common::Fault;
 use feed::{Feed, Joined, Mapped, Silent, Taken};
 use recorded::Recorded;
 use shift::{Shifted, Shifts};
+use stacked::Stacked;
 
-// No frames, or those of captures: of one, of two joined, or of one under shifts.
-#[derive(Clone, Copy)]
+// No frames, or those of captures: of one, of two joined, of one under shifts, or of one by way of a
+// concentrator that stands under the box.
+// Each is as large as that concentrator: on the heap it would need an allocator.
+#[derive(Drop)]
 pub enum AnyFeed<'a> {
     Silent(Silent),
     Recorded(Recorded<'a>),
     Joined(Joined<Recorded<'a>, Recorded<'a>>),
     Shifted(Shifted<Recorded<'a>>),
+    Stacked(Stacked<Recorded<'a>, AnyPolicy>),
 }
 
 impl<'a> AnyFeed<'a> {
@@ -44,6 +50,12 @@ impl<'a> AnyFeed<'a> {
     {
         AnyFeed::Shifted(Mapped { feed, map })
     }
+
+    pub fn stacked(below: Stacked<Recorded<'a>, AnyPolicy>) -> AnyFeed<'a>
+        ensures { meaning_by result ≡ meaning_under below.entry }
+    {
+        AnyFeed::Stacked(below)
+    }
 }
 
 impl<'a> Feed for AnyFeed<'a> {
@@ -55,6 +67,7 @@ impl<'a> Feed for AnyFeed<'a> {
             AnyFeed::Recorded(feed) => feed.tick(reading, scratch),
             AnyFeed::Joined(feed) => feed.tick(reading, scratch),
             AnyFeed::Shifted(feed) => feed.tick(reading, scratch),
+            AnyFeed::Stacked(feed) => feed.tick(reading, scratch),
         }
     }
 
@@ -64,6 +77,7 @@ impl<'a> Feed for AnyFeed<'a> {
             AnyFeed::Recorded(feed) => feed.next(buffer),
             AnyFeed::Joined(feed) => feed.next(buffer),
             AnyFeed::Shifted(feed) => feed.next(buffer),
+            AnyFeed::Stacked(feed) => feed.next(buffer),
         }
     }
 }

@@ -5,16 +5,6 @@ use choice::AnyPolicy;
 use common::{IdCode, Port};
 use std::alloc::Global;
 
-// A call on an open box. `room` is the length of the buffer that is lent.
-#[derive(Drop)]
-pub enum BoxCall {
-    Tick { reading: u64, room: usize },
-    Admit { port: Port, frame: Vec<u8> },
-    Pull { room: usize },
-    Take,
-    Write { number: u64, room: usize },
-}
-
 // A call on the plan, the opening of a box, or a call on the box.
 #[derive(Drop)]
 pub enum Call {
@@ -22,6 +12,7 @@ pub enum Call {
         id: IdCode,
         rate: u16,
     },
+    Lower,
     Add {
         frame: Vec<u8>,
         room: usize,
@@ -38,28 +29,30 @@ pub enum Call {
         source: Source,
         reading: u64,
     },
-    OnBox(BoxCall),
+    // Apart from those below, which have no bytes to keep.
+    Admit {
+        port: Port,
+        frame: Vec<u8>,
+    },
+    OnBox(runs::Call<'static>),
 }
 
 // The call on a box of that name.
-fn read_box_call(name: &str, words: &mut Words) -> Result<BoxCall, Reason> {
+fn read_box_call(name: &str, words: &mut Words) -> Result<runs::Call<'static>, Reason> {
     match name {
-        "tick" => Ok(BoxCall::Tick {
+        "tick" => Ok(runs::Call::Tick {
             reading: words.number()?,
             room: words.room()?,
         }),
-        "admit" => Ok(BoxCall::Admit {
-            port: words.port()?,
-            frame: words.bytes()?,
-        }),
-        "pull" => Ok(BoxCall::Pull {
+        "pull" => Ok(runs::Call::Pull {
             room: words.room()?,
         }),
-        "take" => Ok(BoxCall::Take),
-        "write" => Ok(BoxCall::Write {
-            number: words.number()?,
+        "take" => Ok(runs::Call::Take),
+        "write" => Ok(runs::Call::Write {
+            ticket: words.number()?,
             room: words.room()?,
         }),
+        "counts" => Ok(runs::Call::Counts),
         _ => Err(Reason::UnknownCall),
     }
 }
@@ -71,6 +64,7 @@ fn read_call(words: &mut Words) -> Result<Call, Reason> {
             id: words.id()?,
             rate: words.rate()?,
         }),
+        "lower" => Ok(Call::Lower),
         "add" => Ok(Call::Add {
             frame: words.bytes()?,
             room: words.room()?,
@@ -84,6 +78,10 @@ fn read_call(words: &mut Words) -> Result<Call, Reason> {
             policy: read_policy(words)?,
             source: Source::read(words)?,
             reading: words.number()?,
+        }),
+        "admit" => Ok(Call::Admit {
+            port: words.port()?,
+            frame: words.bytes()?,
         }),
         name => Ok(Call::OnBox(read_box_call(name, words)?)),
     }

@@ -10,10 +10,11 @@ const ROOM: usize = 66_000;
 
 const FILLER: u8 = 0xEE;
 
-// The plan, once there is one, and the buffer of its configuration.
+// The plan, once there is one, the one that was put aside for lower boxes, and the configuration buffer.
 #[derive(Drop)]
 pub struct Draft {
     plan: Option<Plan>,
+    lower: Option<Plan>,
     buffer: Vec<u8>,
 }
 
@@ -21,12 +22,24 @@ impl Draft {
     pub fn new(heap: Global) -> Result<Draft, AllocError> {
         Ok(Draft {
             plan: None,
+            lower: None,
             buffer: vec![in heap; FILLER; ROOM]?,
         })
     }
 
     pub fn plan(&self) -> Result<Plan, Trouble> {
         self.plan.ok_or(Trouble::NoPlan)
+    }
+
+    // The plan of lower boxes: the current one until one is put aside.
+    pub fn lower_plan(&self) -> Result<Plan, Trouble> {
+        self.lower.or(self.plan).ok_or(Trouble::NoPlan)
+    }
+
+    // Puts a copy of the plan aside, as that of lower boxes.
+    pub fn put_aside(&mut self) -> Result<Answer<'static>, Trouble> {
+        self.lower = Some(self.plan()?);
+        Ok(Answer::Done)
     }
 
     // Begins a new plan, with the buffer renewed.

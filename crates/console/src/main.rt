@@ -9,11 +9,11 @@ mod front;
 mod input;
 mod line;
 mod number;
-mod open_box;
 mod reason;
 mod run;
 mod session;
 mod source;
+mod tally;
 mod trouble;
 mod words;
 

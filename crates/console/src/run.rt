@@ -14,7 +14,7 @@ fn print_remark(rt: &HostRuntime, bytes: &[u8]) -> anyhow::Result<()> {
 fn answer<'a>(rt: &HostRuntime, session: &mut Session<'a>, line: &'a Line) -> anyhow::Result<()> {
     match line {
         Line::Remark(bytes) => print_remark(rt, bytes.as_slice())?,
-        Line::Call(Ok(call)) => match session.perform(call) {
+        Line::Call(Ok(call)) => match session.perform(call)? {
             Ok(answer) => println!(rt; "{answer}")?,
             Err(trouble) => println!(rt; "{trouble}")?,
         },

@@ -1,32 +1,30 @@
 use crate::answer::Answer;
-use crate::call::{BoxCall, Call};
+use crate::call::Call;
 use crate::draft::Draft;
-use crate::front::front;
-use crate::open_box::OpenBox;
 use crate::source::Source;
 use crate::trouble::Trouble;
-use crate::words::MOST_ROOM;
-use choice::AnyPolicy;
+use choice::{AnyFeed, AnyPolicy};
+use runs::Host;
 use std::alloc::{AllocError, Global};
 
-// What the calls act on: the plan, the box once one was opened, and the buffer that is lent to it.
-// It is let go by `close` alone, as the box is.
+// What the calls act on: the plan, and the host of the box once one was opened. It is let go by `close`
+// alone, as the host is.
 pub struct Session<'a> {
+    heap: Global,
     draft: Draft,
-    scratch: Vec<u8>,
-    opened: Option<OpenBox<'a>>,
+    opened: Option<Host<AnyFeed<'a>, AnyPolicy>>,
 }
 
 impl<'a> Session<'a> {
     pub fn new(heap: Global) -> Result<Session<'a>, AllocError> {
         Ok(Session {
+            heap,
             draft: Draft::new(heap)?,
-            scratch: vec![in heap; 0; MOST_ROOM]?,
             opened: None,
         })
     }
 
-    // Opens a box in place of the one before, whose ticket is spent if it is out.
+    // Opens a box in place of the one before.
     fn open(
         &mut self,
         policy: AnyPolicy,
@@ -34,31 +32,34 @@ impl<'a> Session<'a> {
         reading: u64,
     ) -> Result<Answer<'static>, Trouble> {
         let plan = self.draft.plan()?;
-        let opened = OpenBox::open(&plan, source.feed(), policy, reading);
-        let answer = opened.check();
+        let feed = source.feed(&self.draft.lower_plan()?);
+        let opened = Host::open(&plan, feed, policy, reading);
+        let verdict = opened.check();
         if let Some(before) = self.opened.replace(opened) {
             before.close();
         }
-        answer
+        verdict?;
+        Ok(Answer::Done)
     }
 
-    // Makes a call on the box, with a new buffer.
-    fn on_box(&mut self, call: &BoxCall) -> Result<Answer<'_>, Trouble> {
-        let opened = self.opened.as_mut().ok_or(Trouble::NoBox)?;
-        let scratch = self.scratch.as_mut_slice();
-        scratch.fill(0);
-        match call {
-            BoxCall::Tick { reading, room } => opened.tick(*reading, front(scratch, *room)),
-            BoxCall::Admit { port, frame } => opened.admit(*port, frame.as_slice()),
-            BoxCall::Pull { room } => opened.pull(front(scratch, *room)),
-            BoxCall::Take => opened.take(),
-            BoxCall::Write { number, room } => opened.write(*number, front(scratch, *room)),
-        }
+    // Makes a call on the box, and answers from its entry.
+    fn on_box(&mut self, call: runs::Call) -> Result<Result<Answer<'static>, Trouble>, AllocError> {
+        let Some(host) = &mut self.opened else {
+            return Ok(Err(Trouble::NoBox));
+        };
+        let mut journal = host.run(self.heap, &[call])?;
+        // a run of one call has one entry
+        let Some(entry) = journal.pop() else {
+            unreachable!()
+        };
+        Ok(Answer::of(entry).map_err(Trouble::Refused))
     }
 
-    pub fn perform(&mut self, call: &'a Call) -> Result<Answer<'_>, Trouble> {
-        match call {
+    // Makes a call. Without memory for it, nothing is answered.
+    pub fn perform(&mut self, call: &'a Call) -> Result<Result<Answer<'_>, Trouble>, AllocError> {
+        Ok(match call {
             Call::Plan { id, rate } => Ok(self.draft.begin(*id, *rate)),
+            Call::Lower => self.draft.put_aside(),
             Call::Add { frame, room } => self.draft.add(frame.as_slice(), *room),
             Call::Publish { reading, room } => self.draft.publish(*reading, *room),
             Call::Find { id } => self.draft.find(*id),
@@ -67,19 +68,23 @@ impl<'a> Session<'a> {
                 source,
                 reading,
             } => self.open(*policy, source, *reading),
-            Call::OnBox(call) => self.on_box(call),
-        }
+            Call::Admit { port, frame } => self.on_box(runs::Call::Admit {
+                port: *port,
+                frame: frame.as_slice(),
+            })?,
+            Call::OnBox(call) => self.on_box(*call)?,
+        })
     }
 
     // Ends the session: a ticket that is still out is spent.
     pub fn close(self) {
         let Session {
+            heap: _,
             draft: _,
-            scratch: _,
             opened,
         } = self;
-        if let Some(opened) = opened {
-            opened.close();
+        if let Some(host) = opened {
+            host.close();
         }
     }
 }

@@ -1,17 +1,27 @@
 use crate::reason::Reason;
 use crate::words::Words;
 use choice::{AnyFeed, AnyPolicy, Simple};
+use common::Port;
+use plan::Plan;
 use policy::{Absolute, Relative, Sooner};
 use recorded::Recorded;
 use shift::Shifts;
+use stacked::Stacked;
 
-// Where a box gets its frames from: the bytes of captures, if any, and what is done with them.
+// Where a box gets its frames from: the bytes of captures, if any, and what is done with them. `Stacked`
+// is a lower box over a capture.
 #[derive(Drop)]
 pub enum Source {
     Silent,
     Capture(Vec<u8>),
     Joined(Vec<u8>, Vec<u8>),
     Shifted([i32; 16], Vec<u8>),
+    Stacked {
+        port: Port,
+        policy: AnyPolicy,
+        bytes: Vec<u8>,
+        reading: u64,
+    },
 }
 
 impl Source {
@@ -21,12 +31,18 @@ impl Source {
             "capture" => Ok(Source::Capture(words.bytes()?)),
             "joined" => Ok(Source::Joined(words.bytes()?, words.bytes()?)),
             "shifted" => Ok(Source::Shifted(words.shifts()?, words.bytes()?)),
+            "stacked" => Ok(Source::Stacked {
+                port: words.port()?,
+                policy: read_policy(words)?,
+                bytes: words.bytes()?,
+                reading: words.number()?,
+            }),
             _ => Err(Reason::UnknownFeed),
         }
     }
 
-    // The feed, over the bytes that stand here.
-    pub fn feed(&self) -> AnyFeed<'_> {
+    // The feed, over the bytes that stand here. A lower box is opened with its plan.
+    pub fn feed(&self, lower: &Plan) -> AnyFeed<'_> {
         match self {
             Source::Silent => AnyFeed::silent(),
             Source::Capture(bytes) => AnyFeed::recorded(Recorded::over(bytes.as_slice())),
@@ -37,6 +53,18 @@ impl Source {
             Source::Shifted(shifts, bytes) => {
                 AnyFeed::shifted(Recorded::over(bytes.as_slice()), Shifts::new(*shifts))
             }
+            Source::Stacked {
+                port,
+                policy,
+                bytes,
+                reading,
+            } => AnyFeed::stacked(Stacked::open(
+                *port,
+                lower,
+                Recorded::over(bytes.as_slice()),
+                *policy,
+                *reading,
+            )),
         }
     }
 }
