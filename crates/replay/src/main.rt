@@ -6,8 +6,8 @@
 mod arrivals;
 mod empty_run;
 mod hex;
-mod host;
 mod options;
+mod player;
 mod present;
 mod report;
 mod slot;
@@ -19,9 +19,9 @@ use anyhow::Context;
 use arrivals::{Arrival, play};
 use capture::{Capture, Record};
 use hex::HexLine;
-use host::Host;
 use listing::{Build, exit_code, read_capture, show_capture};
 use options::{Options, Output};
+use player::Player;
 use recorded::Recorded;
 use report::Report;
 use std::process::ExitCode;
@@ -50,11 +50,20 @@ fn replay(
         Output::Table => show_capture(rt, records, &build)?,
         Output::Hex => print_combined(rt, &build)?,
     }
-    let report = Report::new(rt, options.output);
+    let report = Report::new(rt, options.output, records);
     // with no record any reading does, since the plan then has no port
     let first = records.first().map_or(0, |record| record.reading);
-    let mut host = Host::open(&build, bytes, first, options.waits.policy(), report);
-    host.play(rt, records)
+    let mut player = Player::open(
+        rt.alloc(),
+        &build,
+        bytes,
+        first,
+        options.waits.policy(),
+        report,
+    );
+    let outcome = player.play(rt, records);
+    player.close();
+    outcome
 }
 
 fn run(rt: &HostRuntime) -> anyhow::Result<()> {

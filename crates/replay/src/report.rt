@@ -5,23 +5,29 @@ use crate::present::Present;
 use crate::slot_line::SlotLine;
 use crate::written::WrittenSlot;
 use anyhow::Context;
+use capture::Record;
 use common::{Fault, Port};
 use std::collections::BTreeMap;
 
 // Prints what a concentrator takes and writes.
 #[derive(Drop)]
-pub struct Report {
+pub struct Report<'a> {
     output: Output,
+    // the records whose frames are pulled, in their order, and how many were
+    records: &'a [Record<'a>],
+    pulled: usize,
     // the ports with an accepted frame, by slots that are not written yet
     accepted: BTreeMap<u64, Present>,
     // the last slots, if they had no port and are not printed yet
     empty: Option<EmptyRun>,
 }
 
-impl Report {
-    pub fn new(rt: &HostRuntime, output: Output) -> Report {
+impl<'a> Report<'a> {
+    pub fn new(rt: &HostRuntime, output: Output, records: &'a [Record<'a>]) -> Report<'a> {
         Report {
             output,
+            records,
+            pulled: 0,
             accepted: BTreeMap::new(rt.alloc()),
             empty: None,
         }
@@ -63,6 +69,7 @@ impl Report {
 
     // Notes that a frame of the port was accepted for the slot.
     pub fn accepted(&mut self, slot: u64, port: Port) -> anyhow::Result<()> {
+        self.pulled = self.pulled.saturating_add(1);
         self.accepted
             .entry(slot)?
             .or_insert(Present::none())
@@ -71,15 +78,12 @@ impl Report {
     }
 
     // Tells of a record whose frame was refused.
-    pub fn refused(
-        &mut self,
-        rt: &impl Print,
-        number: usize,
-        line: Port,
-        fault: Fault,
-    ) -> anyhow::Result<()> {
-        if let Output::Table = self.output {
+    pub fn refused(&mut self, rt: &impl Print, fault: Fault) -> anyhow::Result<()> {
+        let line = self.records.get(self.pulled).map(|record| record.port);
+        self.pulled = self.pulled.saturating_add(1);
+        if let (Output::Table, Some(line)) = (self.output, line) {
             self.print_empty(rt)?;
+            let number = self.pulled;
             println!(rt; "record {number} of line {line} refused: {fault}")?;
         }
         Ok(())

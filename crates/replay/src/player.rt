@@ -1,0 +1,173 @@
+use crate::report::Report;
+use crate::slot::slot_of;
+use crate::wired::Wired;
+use crate::written::WrittenSlot;
+use anyhow::{Context, bail};
+use capture::Record;
+use choice::Simple;
+use common::Fault;
+use concentrator::{EARLIEST, LONGEST_STEP};
+use feed::{Feed, LONGEST_FRAME};
+use listing::Build;
+use plan::Plan;
+use policy::Policy;
+use recorded::Recorded;
+use runs::{Call, Entry, Host, PulledFrame};
+use std::alloc::Global;
+
+// The longest time without a record that is played, in microseconds: a day.
+const LONGEST_GAP: u64 = 86_400_000_000;
+
+// More than the calls that can be due between two ticks: 60 seconds have at most 7,200 slots, and a
+// capture at most 5,500 records.
+const MOST_CALLS: u32 = 40_000;
+
+// A host that is prompt: it writes each slot as soon as a tick or a pull has closed it.
+pub struct Player<'a, F: Feed> {
+    host: Host<F, Simple>,
+    // where the buffers of its calls come from
+    heap: Global,
+    plan: &'a Plan,
+    // the latest reading, and how long after its stamp a slot may close
+    clock: u64,
+    wait: u64,
+    report: Report<'a>,
+}
+
+impl<'a> Player<'a, Wired<'a, Recorded<'a>>> {
+    // A player of the plan over the capture, from its first reading on.
+    pub fn open(
+        heap: Global,
+        build: &'a Build,
+        capture: &'a [u8],
+        first: u64,
+        policy: Simple,
+        report: Report<'a>,
+    ) -> Player<'a, Wired<'a, Recorded<'a>>> {
+        let feed = Wired {
+            feed: Recorded::over(capture),
+            lines: build.lines.as_slice(),
+        };
+        Player {
+            host: Host::open(&build.plan, feed, policy, first),
+            heap,
+            plan: &build.plan,
+            clock: first,
+            wait: policy.longest_wait(),
+            report,
+        }
+    }
+}
+
+impl<'a, F: Feed> Player<'a, F> {
+    // Tells what became of a frame that was pulled.
+    fn pulled(&mut self, rt: &impl Print, pulled: &PulledFrame) -> anyhow::Result<()> {
+        if let Err(fault) = pulled.verdict {
+            return self.report.refused(rt, fault);
+        }
+        let slot = slot_of(self.plan, pulled.port, pulled.frame.as_slice()).context("refused")?;
+        self.report.accepted(slot, pulled.port)
+    }
+
+    // Makes a call and takes, and reports both. The call that is due then: slots that are closed are
+    // written before a frame is pulled, and frames are pulled until none waits.
+    fn make(&mut self, rt: &impl Print, call: Call) -> anyhow::Result<Option<Call<'static>>> {
+        let room = LONGEST_FRAME;
+        let mut due = Some(Call::Pull { room });
+        for entry in self.host.run(self.heap, &[call, Call::Take])? {
+            match entry {
+                Entry::Tick {
+                    reading,
+                    answer,
+                    ..
+                } => {
+                    answer.context("refused")?;
+                    self.clock = reading;
+                }
+                Entry::Pull {
+                    answer: Err(Fault::NothingWaits),
+                    ..
+                } => due = None,
+                Entry::Pull { answer, .. } => self.pulled(rt, &answer.context("refused")?)?,
+                Entry::Write { ticket, answer, .. } => {
+                    let frame = answer.context("refused")?;
+                    self.report.written(
+                        rt,
+                        WrittenSlot {
+                            slot: ticket,
+                            reading: self.clock,
+                            frame: frame.as_slice(),
+                        },
+                    )?;
+                }
+                Entry::Take { answer: Ok(ticket) } => due = Some(Call::Write { ticket, room }),
+                _ => {}
+            }
+        }
+        Ok(due)
+    }
+
+    // Ticks, and makes the calls that are due then.
+    fn tick(&mut self, rt: &impl Print, reading: u64) -> anyhow::Result<()> {
+        let room = LONGEST_FRAME;
+        let mut due = Some(Call::Tick { reading, room });
+        // counted: a `while let` has to be proved to end, by following slots and frames through the calls
+        for _ in 0..MOST_CALLS {
+            let Some(call) = due else {
+                return Ok(());
+            };
+            due = self.make(rt, call)?;
+        }
+        bail!("more calls are due after a tick than can be")
+    }
+
+    // Ticks with a reading, and before it as often as no tick has to leap too far.
+    fn tick_up_to(&mut self, rt: &impl Print, reading: u64) -> anyhow::Result<()> {
+        if reading.saturating_sub(self.clock) > LONGEST_GAP {
+            bail!("more than a day lies between two readings of the capture");
+        }
+        for clock in (self.clock..reading).step_by(LONGEST_STEP as usize).skip(1) {
+            self.tick(rt, clock)?;
+        }
+        self.tick(rt, reading)
+    }
+
+    // Plays the capture, by each reading in it, and then goes on until every slot with a frame is closed
+    // and written.
+    fn play_out(&mut self, rt: &impl Print, records: &[Record]) -> anyhow::Result<()> {
+        let mut last = None;
+        for record in records {
+            if last.replace(record.reading) != Some(record.reading) {
+                self.tick_up_to(rt, record.reading)?;
+            }
+        }
+        let rest = self.wait.saturating_add(EARLIEST);
+        self.tick_up_to(rt, self.clock.saturating_add(rest))
+    }
+
+    // Plays the capture to its end, and reports it.
+    pub fn play(&mut self, rt: &impl Print, records: &[Record]) -> anyhow::Result<()> {
+        if let Err(fault) = self.host.check() {
+            return self.report.shut(rt, fault);
+        }
+        self.report.begin(rt, self.wait)?;
+        let outcome = self.play_out(rt, records);
+        self.report.end(rt)?;
+        outcome
+    }
+}
+
+impl<F: Feed + Drop> Player<'_, F> {
+    // Lets the player go, and its host.
+    pub fn close(self) {
+        let Player {
+            host,
+            heap: _,
+            plan: _,
+            clock: _,
+            wait: _,
+            report: _,
+        } = self;
+        host.close();
+    }
+}
