@@ -16,6 +16,11 @@ impl EmptyRun {
             last: line.slot,
         }
     }
+
+    // How many slots there are.
+    pub fn slots(&self) -> u64 {
+        self.last.saturating_sub(self.first.slot).saturating_add(1)
+    }
 }
 
 impl fmt::Display for EmptyRun {
@@ -26,7 +31,7 @@ impl fmt::Display for EmptyRun {
         if first == last {
             return write!(f, "{line}");
         }
-        let slots = last.saturating_sub(first).saturating_add(1);
+        let slots = self.slots();
         write!(f, "slots {first} to {last}: {slots} slots with no port")
     }
 }

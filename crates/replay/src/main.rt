@@ -3,6 +3,7 @@
 // refuses, and what it writes for each slot and when.
 #![tactic(auto)]
 
+mod account;
 mod arrivals;
 mod empty_run;
 mod hex;

@@ -145,6 +145,27 @@ impl<'a, F: Feed> Player<'a, F> {
         self.tick_up_to(rt, self.clock.saturating_add(rest))
     }
 
+    // Asks for the counts, and pulls once more: a frame that comes then was still waiting.
+    fn account(&mut self, rt: &impl Print) -> anyhow::Result<()> {
+        let room = LONGEST_FRAME;
+        let mut counted = None;
+        let mut waits = false;
+        for entry in self
+            .host
+            .run(self.heap, &[Call::Counts, Call::Pull { room }])?
+        {
+            match entry {
+                Entry::Counts { answer } => counted = answer.ok(),
+                Entry::Pull { answer, .. } => waits = answer.is_ok(),
+                _ => {}
+            }
+        }
+        let Some(counts) = counted else {
+            bail!("nothing was counted");
+        };
+        self.report.account(rt, counts, waits)
+    }
+
     // Plays the capture to its end, and reports it.
     pub fn play(&mut self, rt: &impl Print, records: &[Record]) -> anyhow::Result<()> {
         if let Err(fault) = self.host.check() {
@@ -153,7 +174,8 @@ impl<'a, F: Feed> Player<'a, F> {
         self.report.begin(rt, self.wait)?;
         let outcome = self.play_out(rt, records);
         self.report.end(rt)?;
-        outcome
+        outcome?;
+        self.account(rt)
     }
 }
 

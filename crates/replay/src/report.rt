@@ -1,3 +1,4 @@
+use crate::account::Account;
 use crate::empty_run::EmptyRun;
 use crate::hex::HexLine;
 use crate::options::Output;
@@ -7,6 +8,7 @@ use crate::written::WrittenSlot;
 use anyhow::Context;
 use capture::Record;
 use common::{Fault, Port};
+use concentrator::Counts;
 use std::collections::BTreeMap;
 
 // Prints what a concentrator takes and writes.
@@ -20,6 +22,8 @@ pub struct Report<'a> {
     accepted: BTreeMap<u64, Present>,
     // the last slots, if they had no port and are not printed yet
     empty: Option<EmptyRun>,
+    // how many slots are printed
+    shown: u64,
 }
 
 impl<'a> Report<'a> {
@@ -30,6 +34,7 @@ impl<'a> Report<'a> {
             pulled: 0,
             accepted: BTreeMap::new(rt.alloc()),
             empty: None,
+            shown: 0,
         }
     }
 
@@ -63,6 +68,7 @@ impl<'a> Report<'a> {
     fn print_empty(&mut self, rt: &impl Print) -> anyhow::Result<()> {
         if let Some(run) = self.empty.take() {
             println!(rt; "{run}")?;
+            self.shown = self.shown.saturating_add(run.slots());
         }
         Ok(())
     }
@@ -102,6 +108,7 @@ impl<'a> Report<'a> {
         }
         self.print_empty(rt)?;
         println!(rt; "{line}")?;
+        self.shown = self.shown.saturating_add(1);
         Ok(())
     }
 
@@ -117,7 +124,23 @@ impl<'a> Report<'a> {
         }
     }
 
+    // Prints what was put off.
     pub fn end(&mut self, rt: &impl Print) -> anyhow::Result<()> {
         self.print_empty(rt)
+    }
+
+    // Tells what was counted, and whether it adds up with what was reported.
+    pub fn account(&self, rt: &impl Print, counts: Counts, waits: bool) -> anyhow::Result<()> {
+        if let Output::Table = self.output {
+            let account = Account {
+                counts,
+                waits,
+                frames: self.records.len() as u64,
+                slots: self.shown,
+            };
+            println!(rt)?;
+            println!(rt; "{account}")?;
+        }
+        Ok(())
     }
 }
