@@ -1,6 +1,5 @@
+use crate::pace::Pace;
 use crate::report::Report;
-use crate::slot::slot_of;
-use crate::wired::Wired;
 use crate::written::WrittenSlot;
 use anyhow::{Context, bail};
 use capture::Record;
@@ -8,11 +7,9 @@ use choice::Simple;
 use common::Fault;
 use concentrator::{EARLIEST, LONGEST_STEP};
 use feed::{Feed, LONGEST_FRAME};
-use listing::Build;
 use plan::Plan;
 use policy::Policy;
-use recorded::Recorded;
-use runs::{Call, Entry, Host, PulledFrame};
+use runs::{Call, Entry, Host};
 use std::alloc::Global;
 
 // The longest time without a record that is played, in microseconds: a day.
@@ -27,46 +24,28 @@ pub struct Player<'a, F: Feed> {
     host: Host<F, Simple>,
     // where the buffers of its calls come from
     heap: Global,
-    plan: &'a Plan,
-    // the latest reading, and how long after its stamp a slot may close
+    // the latest reading
     clock: u64,
-    wait: u64,
+    pace: Pace,
     report: Report<'a>,
 }
 
-impl<'a> Player<'a, Wired<'a, Recorded<'a>>> {
-    // A player of the plan over the capture, from its first reading on.
+impl<'a, F: Feed> Player<'a, F> {
+    // A player of the plan over a feed.
     pub fn open(
         heap: Global,
-        build: &'a Build,
-        capture: &'a [u8],
-        first: u64,
-        policy: Simple,
+        plan: &Plan,
+        feed: F,
+        pace: Pace,
         report: Report<'a>,
-    ) -> Player<'a, Wired<'a, Recorded<'a>>> {
-        let feed = Wired {
-            feed: Recorded::over(capture),
-            lines: build.lines.as_slice(),
-        };
+    ) -> Player<'a, F> {
         Player {
-            host: Host::open(&build.plan, feed, policy, first),
+            host: Host::open(plan, feed, pace.policy, pace.first),
             heap,
-            plan: &build.plan,
-            clock: first,
-            wait: policy.longest_wait(),
+            clock: pace.first,
+            pace,
             report,
         }
-    }
-}
-
-impl<'a, F: Feed> Player<'a, F> {
-    // Tells what became of a frame that was pulled.
-    fn pulled(&mut self, rt: &impl Print, pulled: &PulledFrame) -> anyhow::Result<()> {
-        if let Err(fault) = pulled.verdict {
-            return self.report.refused(rt, fault);
-        }
-        let slot = slot_of(self.plan, pulled.port, pulled.frame.as_slice()).context("refused")?;
-        self.report.accepted(slot, pulled.port)
     }
 
     // Makes a call and takes, and reports both. The call that is due then: slots that are closed are
@@ -88,7 +67,9 @@ impl<'a, F: Feed> Player<'a, F> {
                     answer: Err(Fault::NothingWaits),
                     ..
                 } => due = None,
-                Entry::Pull { answer, .. } => self.pulled(rt, &answer.context("refused")?)?,
+                Entry::Pull { answer, .. } => self
+                    .report
+                    .pulled(rt, self.clock, &answer.context("refused")?)?,
                 Entry::Write { ticket, answer, .. } => {
                     let frame = answer.context("refused")?;
                     self.report.written(
@@ -121,12 +102,15 @@ impl<'a, F: Feed> Player<'a, F> {
         bail!("more calls are due after a tick than can be")
     }
 
-    // Ticks with a reading, and before it as often as no tick has to leap too far.
+    // Ticks with a reading, and before it as often as no step is too long.
     fn tick_up_to(&mut self, rt: &impl Print, reading: u64) -> anyhow::Result<()> {
         if reading.saturating_sub(self.clock) > LONGEST_GAP {
             bail!("more than a day lies between two readings of the capture");
         }
-        for clock in (self.clock..reading).step_by(LONGEST_STEP as usize).skip(1) {
+        for clock in (self.clock..reading)
+            .step_by(self.pace.step.clamp(1, LONGEST_STEP) as usize)
+            .skip(1)
+        {
             self.tick(rt, clock)?;
         }
         self.tick(rt, reading)
@@ -141,7 +125,7 @@ impl<'a, F: Feed> Player<'a, F> {
                 self.tick_up_to(rt, record.reading)?;
             }
         }
-        let rest = self.wait.saturating_add(EARLIEST);
+        let rest = self.pace.policy.longest_wait().saturating_add(EARLIEST);
         self.tick_up_to(rt, self.clock.saturating_add(rest))
     }
 
@@ -167,11 +151,11 @@ impl<'a, F: Feed> Player<'a, F> {
     }
 
     // Plays the capture to its end, and reports it.
-    pub fn play(&mut self, rt: &impl Print, records: &[Record]) -> anyhow::Result<()> {
+    fn play_and_report(&mut self, rt: &impl Print, records: &[Record]) -> anyhow::Result<()> {
         if let Err(fault) = self.host.check() {
             return self.report.shut(rt, fault);
         }
-        self.report.begin(rt, self.wait)?;
+        self.report.begin(rt, self.pace.policy.longest_wait())?;
         let outcome = self.play_out(rt, records);
         self.report.end(rt)?;
         outcome?;
@@ -180,16 +164,17 @@ impl<'a, F: Feed> Player<'a, F> {
 }
 
 impl<F: Feed + Drop> Player<'_, F> {
-    // Lets the player go, and its host.
-    pub fn close(self) {
+    // Plays the capture to its end, and lets the host go.
+    pub fn play(mut self, rt: &impl Print, records: &[Record]) -> anyhow::Result<()> {
+        let outcome = self.play_and_report(rt, records);
         let Player {
             host,
             heap: _,
-            plan: _,
             clock: _,
-            wait: _,
+            pace: _,
             report: _,
         } = self;
         host.close();
+        outcome
     }
 }
