@@ -15,9 +15,9 @@ use Rattle.listing.specs.Lines.{first_config, is_used, first_rate}
 unfoldable pub blank : List ℕ
 blank = replicate 40024 0
 
--- a plan of the code 1 without ports, at the rate of the lowest line that has a configuration
-unfoldable pub begun : List Record → State
-begun rs = start 1 (unwrap_or (first_rate rs) 0) blank
+-- a plan of the code without ports, at the rate of the lowest line that has a configuration
+unfoldable pub begun : ℕ → List Record → State
+begun id rs = start id (unwrap_or (first_rate rs) 0) blank
 
 abbrev pub adds_of : Option Record → List Call
 adds_of (Some r) = adding r.frame.now ∷ []
@@ -28,9 +28,9 @@ unfoldable pub after_line : State → Option Record → State
 after_line s c = after_calls s (adds_of c)
 
 -- after the lines below k, in their order
-unfoldable pub after_lines : List Record → ℕ → State
-after_lines rs zero = begun rs
-after_lines rs (suc k) = after_line (after_lines rs k) (first_config rs k)
+unfoldable pub after_lines : ℕ → List Record → ℕ → State
+after_lines id rs zero = begun id rs
+after_lines id rs (suc k) = after_line (after_lines id rs k) (first_config rs k)
 
 abbrev pub answered : Result ℕ Fault → Outcome
 answered (Ok n) = outcome.Filled (record { 0 = n })
@@ -43,9 +43,9 @@ outcome_of s None true = outcome.NoConfiguration
 outcome_of s None false = outcome.Unused
 
 -- what became of the lines below k
-unfoldable pub outcomes : List Record → ℕ → List Outcome
-outcomes rs zero = []
-outcomes rs (suc k) = outcomes rs k ++ outcome_of (after_lines rs k) (first_config rs k) (is_used rs k) ∷ []
+unfoldable pub outcomes : ℕ → List Record → ℕ → List Outcome
+outcomes id rs zero = []
+outcomes id rs (suc k) = outcomes id rs k ++ outcome_of (after_lines id rs k) (first_config rs k) (is_used rs k) ∷ []
 
 abbrev pub front_by : Result ℕ Fault → List ℕ → Result (List ℕ) Fault
 front_by (Ok n) buffer = Ok (take n buffer)

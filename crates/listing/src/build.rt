@@ -9,9 +9,6 @@ use common::{Fault, IdCode, Port};
 use plan::Plan;
 use std::alloc::{AllocError, Global};
 
-// The code that the combined stream is sent under.
-const COMBINED: IdCode = IdCode(1);
-
 // Room for the longest configuration that a plan can make.
 const ROOM: usize = 40_024;
 
@@ -74,15 +71,15 @@ fn publish(plan: &Plan, reading: u64, mut buffer: Vec<u8>) -> Result<Vec<u8>, Fa
 
 impl Build {
     // A plan of the first configuration of each line, in the order of the lines, at the rate of
-    // the lowest line that has one.
-    pub fn of(alloc: Global, records: &[Record]) -> Result<Build, AllocError>
-        ensures plan { IfOk result (λ b. plan_of b.plan ≡ (after_lines records.now 16).plan) }
-        ensures lines { IfOk result (λ b. b.lines.items ≡ outcomes records.now 16) }
-        ensures combined { IfOk result (λ b. bytes_by b.combined ≡ published (after_lines records.now 16) (last_reading_of records.now)) }
+    // the lowest line that has one. The combined stream is sent under the code `id`.
+    pub fn of(alloc: Global, records: &[Record], id: IdCode) -> Result<Build, AllocError>
+        ensures plan { IfOk result (λ b. plan_of b.plan ≡ (after_lines id.0 records.now 16).plan) }
+        ensures lines { IfOk result (λ b. b.lines.items ≡ outcomes id.0 records.now 16) }
+        ensures combined { IfOk result (λ b. bytes_by b.combined ≡ published (after_lines id.0 records.now 16) (last_reading_of records.now)) }
     {
         let mut buffer = vec![in alloc; 0; ROOM]?;
         // where no line has a configuration the rate is 0: it is printed like any other, and no slot comes of it
-        let mut plan = Plan::begin(COMBINED, first_rate(records).unwrap_or(0));
+        let mut plan = Plan::begin(id, first_rate(records).unwrap_or(0));
         let mut lines = Vec::new(alloc);
         for line in 0..LINES {
             lines.push(add_line(&mut plan, records, Port(line), &mut buffer))?;

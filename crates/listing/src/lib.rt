@@ -22,6 +22,7 @@ pub use build::{Build, Outcome};
 pub use checks::judge;
 pub use exit::exit_code;
 pub use input::{InputError, read_capture};
+pub use published::show_combined;
 pub use seconds::Seconds;
 pub use show::show_capture;
 pub use slot::slot_at;

@@ -18,7 +18,7 @@ fn show_line(rt: &impl Print, plan: &Plan, line: usize, outcome: Outcome) -> io:
         ),
         Outcome::Filled(port) => {
             print!(rt; "{line:>5}  {port:>4}")?;
-            match plan.ports().get(usize::from(port.0)) {
+            match plan.port(port) {
                 Some(record) => show_port(rt, record),
                 None => println!(rt),
             }

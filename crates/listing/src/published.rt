@@ -37,8 +37,7 @@ fn show_frame(rt: &impl Print, frame: &[u8]) -> io::Result<()> {
 }
 
 // Tells of the combined configuration.
-pub(crate) fn show_combined(rt: &impl Print, build: &Build) -> io::Result<()> {
-    println!(rt)?;
+pub fn show_combined(rt: &impl Print, build: &Build) -> io::Result<()> {
     match &build.combined {
         Ok(frame) => show_frame(rt, frame.as_slice()),
         Err(fault) => println!(rt; "no combined configuration: {fault}"),

@@ -1,5 +1,6 @@
 ghost use Rattle.listing.specs.Waits.{IsPolicyOf, TookNumber, TookWait, names_wait};
-ghost use Rattle.std.specs.Prelude.{◌≡◌, ◌≤◌, ◌↔◌, true, false, IfOk, OnErr, None, Some, Ok, Err, string_bytes, codes, map};
+ghost use Rattle.std.specs.Prelude.{◌≡◌, ◌≤◌, ◌↔◌, true, false, IfOk, OnErr, None, Some, Ok, Err, string_bytes, codes, map, min, ◌*◌, ◌-◌, ◌^◌};
+ghost use Rattle.std.specs.Option.{option_map, option_map_or};
 ghost use Rattle.std.specs.Vec.Iter.{into_iter_items, into_iter_len};
 
 use choice::Simple;
@@ -67,6 +68,25 @@ impl Waits {
             _ => return Ok(false),
         }
         Ok(true)
+    }
+
+    // Waits twice as long.
+    pub fn doubled(self) -> Waits
+        ensures longest { result.longest ≡ min (2 * self.longest) (2 ^ 64 - 1) }
+        ensures arrival { result.after_arrival ≡ option_map (λ wait. min (2 * wait) (2 ^ 64 - 1)) self.after_arrival }
+    {
+        Waits {
+            longest: self.longest.saturating_mul(2),
+            after_arrival: self.after_arrival.map(|wait| wait.saturating_mul(2)),
+        }
+    }
+
+    // The shorter one of the waits.
+    pub fn shortest(self) -> u64
+        ensures { result ≡ option_map_or (min self.longest) self.after_arrival self.longest }
+    {
+        self.after_arrival
+            .map_or(self.longest, |wait| wait.min(self.longest))
     }
 
     // When slots close.

@@ -1,7 +1,8 @@
 use crate::slot_line::SlotLine;
+use crate::whose::Whose;
 use std::fmt;
 
-// Slots in a row that were written without a frame of any port.
+// Slots in a row that were written without a frame of any line.
 #[derive(Clone, Copy)]
 pub struct EmptyRun {
     first: SlotLine,
@@ -9,12 +10,31 @@ pub struct EmptyRun {
 }
 
 impl EmptyRun {
-    // The run with one slot more, or one that it begins.
-    pub fn with(run: Option<EmptyRun>, line: SlotLine) -> EmptyRun {
+    // The run that a line begins.
+    pub fn of(line: SlotLine) -> EmptyRun {
         EmptyRun {
-            first: run.map_or(line, |run| run.first),
+            first: line,
             last: line.slot,
         }
+    }
+
+    // Takes the line, if its slot is the next one of the run. Answers whether it is.
+    pub fn take(&mut self, line: SlotLine) -> bool {
+        let follows = line.whose == self.first.whose && self.last.checked_add(1) == Some(line.slot);
+        if follows {
+            self.last = line.slot;
+        }
+        follows
+    }
+
+    // Whose slots they are.
+    pub fn whose(&self) -> Whose {
+        self.first.whose
+    }
+
+    // How many slots there are.
+    pub fn slots(&self) -> u64 {
+        self.last.saturating_sub(self.first.slot).saturating_add(1)
     }
 }
 
@@ -26,7 +46,11 @@ impl fmt::Display for EmptyRun {
         if first == last {
             return write!(f, "{line}");
         }
-        let slots = last.saturating_sub(first).saturating_add(1);
-        write!(f, "slots {first} to {last}: {slots} slots with no port")
+        let slots = self.slots();
+        write!(f, "slots {first} to {last}: {slots} slots with no port")?;
+        match line.whose {
+            Whose::Own(_) => Ok(()),
+            whose => write!(f, " {whose}"),
+        }
     }
 }

@@ -1,3 +1,5 @@
+use anyhow::Context;
+use listing::Build;
 use std::fmt;
 
 // A frame as one line of a hex dump: the offset of its first byte, and then all its bytes, with a
@@ -12,5 +14,17 @@ impl fmt::Display for HexLine<'_> {
             write!(f, " {byte:02x}")?;
         }
         Ok(())
+    }
+}
+
+// Prints the combined configuration in full.
+pub fn print_combined(rt: &impl Print, build: &Build) -> anyhow::Result<()> {
+    match &build.combined {
+        Ok(frame) => {
+            let hex = HexLine(frame.as_slice());
+            println!(rt; "{hex}")?;
+            Ok(())
+        }
+        Err(fault) => Err(*fault).context("refused"),
     }
 }

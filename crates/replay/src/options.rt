@@ -1,6 +1,10 @@
 use anyhow::bail;
+use common::IdCode;
 use listing::Waits;
 use std::env;
+
+// The code that the combined stream is sent under.
+pub const COMBINED: IdCode = IdCode(1);
 
 // What is printed: tables, or the combined stream as a hex dump, one frame a line.
 #[derive(Clone, Copy)]
@@ -9,11 +13,19 @@ pub enum Output {
     Hex,
 }
 
+// What the capture is played through: one concentrator, or two of them under a third.
+#[derive(Clone, Copy)]
+pub enum Form {
+    Single,
+    Stack,
+}
+
 // What the arguments ask for.
 #[derive(Clone, Copy)]
 pub struct Options {
     pub waits: Waits,
     pub output: Output,
+    pub form: Form,
 }
 
 impl Options {
@@ -21,17 +33,26 @@ impl Options {
     pub fn read(rt: &HostRuntime) -> anyhow::Result<Options> {
         let mut waits = Waits::usual();
         let mut output = Output::Table;
+        let mut form = Form::Single;
         let mut words = env::args(rt)?;
         let _program = words.next();
         while let Some(word) = words.next() {
-            if word.as_str() == "--hex" {
-                output = Output::Hex;
-            } else if !waits.take(word.as_str(), &mut words)? {
-                bail!(
-                    "usage: replay [--wait MICROSECONDS] [--relative MICROSECONDS] [--hex] < CAPTURE"
-                );
+            match word.as_str() {
+                "--hex" => output = Output::Hex,
+                "--stack" => form = Form::Stack,
+                other => {
+                    if !waits.take(other, &mut words)? {
+                        bail!(
+                            "usage: replay [--wait MICROSECONDS] [--relative MICROSECONDS] [--stack] [--hex] < CAPTURE"
+                        );
+                    }
+                }
             }
         }
-        Ok(Options { waits, output })
+        Ok(Options {
+            waits,
+            output,
+            form,
+        })
     }
 }

@@ -2,7 +2,7 @@ use common::Port;
 use std::fmt;
 
 // The ports that have a frame in a slot.
-#[derive(Clone, Copy)]
+#[derive(Clone, Copy, PartialEq, Eq)]
 pub struct Present {
     // by port: an array needs no heap, as a set would
     ports: [bool; 16],

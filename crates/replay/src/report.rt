@@ -1,29 +1,52 @@
-use crate::empty_run::EmptyRun;
+use crate::account::Account;
 use crate::hex::HexLine;
 use crate::options::Output;
 use crate::present::Present;
+use crate::slot::slot_of;
 use crate::slot_line::SlotLine;
+use crate::table::Table;
+use crate::whose::Whose;
 use crate::written::WrittenSlot;
 use anyhow::Context;
+use capture::Record;
 use common::{Fault, Port};
+use concentrator::Counts;
+use plan::Plan;
+use runs::PulledFrame;
+use std::alloc::Global;
 use std::collections::BTreeMap;
+
+// Where the frames come from that a concentrator pulls.
+#[derive(Clone, Copy)]
+pub enum Source<'a> {
+    // The records of a capture, in their order.
+    Records(&'a [Record<'a>]),
+    // The combined streams of boxes below.
+    Boxes,
+}
 
 // Prints what a concentrator takes and writes.
 #[derive(Drop)]
-pub struct Report {
+pub struct Report<'a> {
     output: Output,
+    source: Source<'a>,
+    plan: &'a Plan,
     // the ports with an accepted frame, by slots that are not written yet
     accepted: BTreeMap<u64, Present>,
-    // the last slots, if they had no port and are not printed yet
-    empty: Option<EmptyRun>,
+    // how many frames are pulled
+    pulled: usize,
+    table: Table,
 }
 
-impl Report {
-    pub fn new(rt: &HostRuntime, output: Output) -> Report {
+impl<'a> Report<'a> {
+    pub fn new(heap: Global, output: Output, source: Source<'a>, plan: &'a Plan) -> Report<'a> {
         Report {
             output,
-            accepted: BTreeMap::new(rt.alloc()),
-            empty: None,
+            source,
+            plan,
+            accepted: BTreeMap::new(heap),
+            pulled: 0,
+            table: Table::new(heap),
         }
     }
 
@@ -53,16 +76,8 @@ impl Report {
         Ok(())
     }
 
-    // Prints the slots without a port that were put off.
-    fn print_empty(&mut self, rt: &impl Print) -> anyhow::Result<()> {
-        if let Some(run) = self.empty.take() {
-            println!(rt; "{run}")?;
-        }
-        Ok(())
-    }
-
     // Notes that a frame of the port was accepted for the slot.
-    pub fn accepted(&mut self, slot: u64, port: Port) -> anyhow::Result<()> {
+    fn accept(&mut self, slot: u64, port: Port) -> anyhow::Result<()> {
         self.accepted
             .entry(slot)?
             .or_insert(Present::none())
@@ -70,41 +85,88 @@ impl Report {
         Ok(())
     }
 
-    // Tells of a record whose frame was refused.
-    pub fn refused(
+    // Tells of the frame of a record, if it was refused.
+    fn record_pulled(
         &mut self,
         rt: &impl Print,
-        number: usize,
         line: Port,
-        fault: Fault,
+        pulled: &PulledFrame,
     ) -> anyhow::Result<()> {
-        if let Output::Table = self.output {
-            self.print_empty(rt)?;
-            println!(rt; "record {number} of line {line} refused: {fault}")?;
+        match pulled.verdict {
+            Ok(()) => {
+                let slot = slot_of(self.plan, pulled.port, pulled.frame.as_slice()).context(
+                    "refused",
+                )?;
+                self.accept(slot, pulled.port)
+            }
+            Err(fault) => {
+                if let Output::Table = self.output {
+                    self.table.flush(rt)?;
+                    let number = self.pulled;
+                    println!(rt; "record {number} of line {line} refused: {fault}")?;
+                }
+                Ok(())
+            }
         }
-        Ok(())
     }
 
-    // A line for a slot with a port; a slot without one is put off.
-    fn print_slot(&mut self, rt: &impl Print, written: WrittenSlot) -> anyhow::Result<()> {
-        let present = self
-            .accepted
-            .remove(&written.slot)
-            .unwrap_or(Present::none());
-        let line = SlotLine::read(written, present).context("refused")?;
-        if present.is_none() {
-            self.empty = Some(EmptyRun::with(self.empty, line));
-            return Ok(());
+    // Tells of the frame of a box below. One that no line of the box has filled counts as no port.
+    fn box_pulled(
+        &mut self,
+        rt: &impl Print,
+        reading: u64,
+        pulled: &PulledFrame,
+    ) -> anyhow::Result<()> {
+        let frame = pulled.frame.as_slice();
+        let slot = slot_of(self.plan, pulled.port, frame).context("refused")?;
+        let whose = Whose::Below {
+            port: pulled.port,
+            verdict: pulled.verdict,
+        };
+        let written = WrittenSlot {
+            slot,
+            reading,
+            frame,
+        };
+        let line = SlotLine::read(written, whose).context("refused")?;
+        if pulled.verdict.is_ok() && !line.is_empty() {
+            self.accept(slot, pulled.port)?;
         }
-        self.print_empty(rt)?;
-        println!(rt; "{line}")?;
-        Ok(())
+        match self.output {
+            Output::Table => self.table.print(rt, line),
+            Output::Hex => Ok(()),
+        }
+    }
+
+    // Tells what became of a frame that was pulled at a reading.
+    pub fn pulled(
+        &mut self,
+        rt: &impl Print,
+        reading: u64,
+        pulled: &PulledFrame,
+    ) -> anyhow::Result<()> {
+        let place = self.pulled;
+        self.pulled = self.pulled.saturating_add(1);
+        match self.source {
+            Source::Boxes => self.box_pulled(rt, reading, pulled),
+            Source::Records(records) => match records.get(place) {
+                Some(record) => self.record_pulled(rt, record.port, pulled),
+                None => Ok(()),
+            },
+        }
     }
 
     // Shows the frame that was written for a slot.
     pub fn written(&mut self, rt: &impl Print, written: WrittenSlot) -> anyhow::Result<()> {
+        let present = self
+            .accepted
+            .remove(&written.slot)
+            .unwrap_or(Present::none());
         match self.output {
-            Output::Table => self.print_slot(rt, written),
+            Output::Table => {
+                let line = SlotLine::read(written, Whose::Own(present)).context("refused")?;
+                self.table.print(rt, line)
+            }
             Output::Hex => {
                 let hex = HexLine(written.frame);
                 println!(rt; "{hex}")?;
@@ -113,7 +175,27 @@ impl Report {
         }
     }
 
+    // Prints what was put off.
     pub fn end(&mut self, rt: &impl Print) -> anyhow::Result<()> {
-        self.print_empty(rt)
+        self.table.flush(rt)
+    }
+
+    // Tells what was counted, and whether it adds up with what was reported.
+    pub fn account(&self, rt: &impl Print, counts: Counts, waits: bool) -> anyhow::Result<()> {
+        if let Output::Table = self.output {
+            let frames = match self.source {
+                Source::Records(records) => records.len() as u64,
+                Source::Boxes => self.table.shown.below,
+            };
+            let account = Account {
+                counts,
+                waits,
+                frames,
+                slots: self.table.shown.own,
+            };
+            println!(rt)?;
+            println!(rt; "{account}")?;
+        }
+        Ok(())
     }
 }

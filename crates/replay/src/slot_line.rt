@@ -1,10 +1,13 @@
-use crate::present::Present;
+use crate::whose::Whose;
 use crate::written::WrittenSlot;
 use common::Fault;
 use fields::u16_at;
 use listing::{Seconds, Utc, judge};
 use std::fmt;
 use wire::TimeTag;
+
+// The time quality of a combined frame that no line has filled.
+const UNFILLED: u8 = 15;
 
 // A written slot as it is printed.
 #[derive(Clone, Copy)]
@@ -14,7 +17,7 @@ pub struct SlotLine {
     reading: u64,
     len: usize,
     check: u16,
-    present: Present,
+    pub whose: Whose,
 }
 
 // The stamp of a combined frame in microseconds: its count is in millionths of a second.
@@ -24,7 +27,7 @@ fn stamp_of(time: TimeTag) -> u64 {
 
 impl SlotLine {
     // Reads the written frame like any other.
-    pub fn read(written: WrittenSlot, present: Present) -> Result<SlotLine, Fault> {
+    pub fn read(written: WrittenSlot, whose: Whose) -> Result<SlotLine, Fault> {
         let header = judge(written.frame)?;
         let len = written.frame.len();
         let check = u16_at(written.frame, len.saturating_sub(2)).ok_or(Fault::Short)?;
@@ -34,8 +37,16 @@ impl SlotLine {
             reading: written.reading,
             len,
             check,
-            present,
+            whose,
         })
+    }
+
+    // Whether no line has a frame in the slot.
+    pub fn is_empty(&self) -> bool {
+        match self.whose {
+            Whose::Own(present) => present.is_none(),
+            Whose::Below { .. } => self.time.quality & 15 == UNFILLED,
+        }
     }
 
     // How long after its stamp the slot was written, in microseconds: less than 0 if it was written before.
@@ -54,10 +65,10 @@ impl fmt::Display for SlotLine {
         let quality = self.time.quality;
         let len = self.len;
         let check = self.check;
-        let present = self.present;
+        let whose = self.whose;
         write!(
             f,
-            "{slot:>12}  {time}.{micros:06}  {written}  {after:>+10}      {quality:02x}h  {len:>5}  {check:04x}h  {present}"
+            "{slot:>12}  {time}.{micros:06}  {written}  {after:>+10}      {quality:02x}h  {len:>5}  {check:04x}h  {whose}"
         )
     }
 }
