@@ -1,6 +1,6 @@
 // Buffers of 1,039 and 1,040 bytes, at a feed of each kind.
-use crate::calls::{check_idle, check_next, check_short, tick};
 use feed::{Feed, Joined, Silent};
+use feed_checks::{check_idle, check_next, check_short, tick};
 use fixtures::Recording;
 use recorded::Recorded;
 use shift::{Shifted, Shifts};

@@ -1,5 +1,6 @@
 use crate::build::recording;
-use crate::calls::{Step, check_idle, check_next, check_steps, tick};
+use crate::steps::{Step, check_steps};
+use feed_checks::{check_idle, check_next, tick};
 use fixtures::{Recording, number};
 use recorded::Recorded;
 use std::alloc::Global;

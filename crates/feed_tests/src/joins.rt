@@ -1,5 +1,5 @@
 use crate::build::recording;
-use crate::calls::{Step, check_steps};
+use crate::steps::{Step, check_steps};
 use feed::Joined;
 use recorded::Recorded;
 use std::test::Fail;

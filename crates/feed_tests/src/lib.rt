@@ -6,8 +6,6 @@ mod buffers;
 #[cfg(test)]
 mod build;
 #[cfg(test)]
-mod calls;
-#[cfg(test)]
 mod captures;
 #[cfg(test)]
 mod joins;
@@ -15,3 +13,5 @@ mod joins;
 mod piles;
 #[cfg(test)]
 mod shifts;
+#[cfg(test)]
+mod steps;

@@ -1,7 +1,7 @@
 // Feeds upon feeds, three levels and more.
 use crate::build::command;
-use crate::calls::{check_idle, check_next, tick};
 use feed::{Feed, Joined, Silent};
+use feed_checks::{check_idle, check_next, tick};
 use fixtures::Recording;
 use recorded::Recorded;
 use shift::{Shifted, Shifts};

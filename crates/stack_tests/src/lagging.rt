@@ -1,8 +1,9 @@
 // Ticks that the box below refuses.
 use crate::build::{FIRST, OPENING, SECOND, lower, plan, recording};
-use crate::calls::{check_idle, check_next, tick};
+use crate::steps::check_text;
 use common::Port;
 use feed::Feed;
+use feed_checks::{check_idle, tick};
 use std::test::Fail;
 
 #[test]
@@ -30,7 +31,7 @@ fn a_leap_changes_nothing(rt: HostRuntime) -> Result<(), Fail> {
     }
     // the seconds 1000 to 1059 are over; the frame of the first comes too late
     tick(&mut feed, 1_060_000_000)?;
-    check_next(
+    check_text(
         &rt,
         heap,
         &mut feed,
@@ -42,7 +43,7 @@ fn a_leap_changes_nothing(rt: HostRuntime) -> Result<(), Fail> {
         assert_eq!(rt; taken.port, Port(5));
         assert_eq!(rt; taken.len, 28);
     }
-    check_next(
+    check_text(
         &rt,
         heap,
         &mut feed,

@@ -4,12 +4,12 @@
 #[cfg(test)]
 mod build;
 #[cfg(test)]
-mod calls;
-#[cfg(test)]
 mod lagging;
 #[cfg(test)]
 mod shut;
 #[cfg(test)]
 mod slots;
+#[cfg(test)]
+mod steps;
 #[cfg(test)]
 mod upper;

@@ -1,7 +1,7 @@
 // Boxes that are shut: nothing ever waits.
 use crate::build::{FIRST, OPENING, plan, recording};
-use crate::calls::{check_idle, check_short, tick};
 use common::{IdCode, Port};
+use feed_checks::{check_idle, check_short, tick};
 use fixtures::number;
 use plan::Plan;
 use policy::Absolute;

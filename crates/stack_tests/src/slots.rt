@@ -1,6 +1,7 @@
 // What waits at a box under another, slot by slot.
 use crate::build::{FIRST, SECOND, lower, plan, recording};
-use crate::calls::{Step, check_short, check_steps};
+use crate::steps::{Step, check_steps};
+use feed_checks::check_short;
 use std::test::Fail;
 
 #[test]

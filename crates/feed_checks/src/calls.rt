@@ -1,4 +1,3 @@
-// Calls of a feed, with what they are to answer.
 use common::{Fault, Port};
 use feed::Feed;
 use fixtures::number;
@@ -13,13 +12,13 @@ fn check_filled(rt: &impl Abort, bytes: &[u8]) {
 }
 
 // A tick with a buffer of the least length.
-pub(crate) fn tick<F: Feed>(feed: &mut F, reading: u64) -> Result<(), Fault> {
+pub fn tick<F: Feed>(feed: &mut F, reading: u64) -> Result<(), Fault> {
     let mut scratch = [FILL; 1040];
     feed.tick(reading, &mut scratch)
 }
 
 // That this frame is next, and is put at the front of a buffer whose rest stays as it was.
-pub(crate) fn check_next<F: Feed>(
+pub fn check_next<F: Feed>(
     rt: &impl Abort,
     feed: &mut F,
     port: u8,
@@ -38,38 +37,17 @@ pub(crate) fn check_next<F: Feed>(
 }
 
 // That nothing waits, and the buffer stays as it was.
-pub(crate) fn check_idle<F: Feed>(rt: &impl Abort, feed: &mut F) {
+pub fn check_idle<F: Feed>(rt: &impl Abort, feed: &mut F) {
     let mut buffer = [FILL; 1040];
     assert_eq!(rt; number(feed.next(&mut buffer)), 30);
     check_filled(rt, &buffer);
 }
 
 // That a buffer of one byte too few is refused by either call, and stays as it was.
-pub(crate) fn check_short<F: Feed>(rt: &impl Abort, feed: &mut F, reading: u64) {
+pub fn check_short<F: Feed>(rt: &impl Abort, feed: &mut F, reading: u64) {
     let mut buffer = [FILL; 1039];
     assert_eq!(rt; number(feed.tick(reading, &mut buffer)), 17);
     check_filled(rt, &buffer);
     assert_eq!(rt; number(feed.next(&mut buffer)), 17);
     check_filled(rt, &buffer);
-}
-
-// A tick with this reading, then the frames that are next, as port and only byte, and whether no
-// others wait.
-pub(crate) type Step<'a> = (u64, &'a [(u8, u8)], bool);
-
-pub(crate) fn check_steps<F: Feed>(
-    rt: &impl Abort,
-    feed: &mut F,
-    steps: &[Step<'_>],
-) -> Result<(), Fail> {
-    for (reading, frames, last) in steps {
-        tick(feed, *reading)?;
-        for (port, byte) in *frames {
-            check_next(rt, feed, *port, &[*byte])?;
-        }
-        if *last {
-            check_idle(rt, feed);
-        }
-    }
-    Ok(())
 }

@@ -1,0 +1,6 @@
+// Calls of a feed, with what they are to answer: what the tests of several feeds share.
+#![tactic(auto)]
+
+mod calls;
+
+pub use calls::{check_idle, check_next, check_short, tick};
