@@ -15,7 +15,6 @@ pub type LowerFeed<'a> = Stacked<Wired<'a, Recorded<'a>>, Simple>;
 // A box under another: its lines, a capture of their records, and what their configurations make.
 #[derive(Drop)]
 pub struct Lower {
-    pub id: IdCode,
     pub lines: Vec<Port>,
     capture: Vec<u8>,
     pub build: Build,
@@ -35,7 +34,6 @@ impl Lower {
             .copied()
             .collect(heap)?;
         Ok(Lower {
-            id,
             lines: Vec::from_slice(heap, lines)?,
             capture: capture_bytes(heap, own.as_slice())?,
             build: Build::of(heap, own.as_slice(), id)?,

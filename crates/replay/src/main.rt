@@ -20,6 +20,7 @@ mod slot;
 mod slot_line;
 mod stack;
 mod table;
+mod unfilled;
 mod whose;
 mod wired;
 mod written;

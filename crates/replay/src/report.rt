@@ -5,6 +5,7 @@ use crate::present::Present;
 use crate::slot::slot_of;
 use crate::slot_line::SlotLine;
 use crate::table::Table;
+use crate::unfilled::is_unfilled;
 use crate::whose::Whose;
 use crate::written::WrittenSlot;
 use anyhow::Context;
@@ -85,6 +86,25 @@ impl<'a> Report<'a> {
         Ok(())
     }
 
+    // A line of the table for a slot; an empty one is put off.
+    fn show(
+        &mut self,
+        rt: &impl Print,
+        written: WrittenSlot,
+        whose: Whose,
+        empty: bool,
+    ) -> anyhow::Result<()> {
+        if let Output::Hex = self.output {
+            return Ok(());
+        }
+        let line = SlotLine::read(written, whose).context("refused")?;
+        if empty {
+            self.table.put_off(line)
+        } else {
+            self.table.print(rt, line)
+        }
+    }
+
     // Tells of the frame of a record, if it was refused.
     fn record_pulled(
         &mut self,
@@ -128,14 +148,11 @@ impl<'a> Report<'a> {
             reading,
             frame,
         };
-        let line = SlotLine::read(written, whose).context("refused")?;
-        if pulled.verdict.is_ok() && !line.is_empty() {
+        let unfilled = is_unfilled(self.plan, pulled.port, frame).context("refused")?;
+        if pulled.verdict.is_ok() && !unfilled {
             self.accept(slot, pulled.port)?;
         }
-        match self.output {
-            Output::Table => self.table.print(rt, line),
-            Output::Hex => Ok(()),
-        }
+        self.show(rt, written, whose, unfilled)
     }
 
     // Tells what became of a frame that was pulled at a reading.
@@ -162,17 +179,11 @@ impl<'a> Report<'a> {
             .accepted
             .remove(&written.slot)
             .unwrap_or(Present::none());
-        match self.output {
-            Output::Table => {
-                let line = SlotLine::read(written, Whose::Own(present)).context("refused")?;
-                self.table.print(rt, line)
-            }
-            Output::Hex => {
-                let hex = HexLine(written.frame);
-                println!(rt; "{hex}")?;
-                Ok(())
-            }
+        if let Output::Hex = self.output {
+            let hex = HexLine(written.frame);
+            println!(rt; "{hex}")?;
         }
+        self.show(rt, written, Whose::Own(present), present.is_none())
     }
 
     // Prints what was put off.

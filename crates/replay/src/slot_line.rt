@@ -6,9 +6,6 @@ use listing::{Seconds, Utc, judge};
 use std::fmt;
 use wire::TimeTag;
 
-// The time quality of a combined frame that no line has filled.
-const UNFILLED: u8 = 15;
-
 // A written slot as it is printed.
 #[derive(Clone, Copy)]
 pub struct SlotLine {
@@ -39,14 +36,6 @@ impl SlotLine {
             check,
             whose,
         })
-    }
-
-    // Whether no line has a frame in the slot.
-    pub fn is_empty(&self) -> bool {
-        match self.whose {
-            Whose::Own(present) => present.is_none(),
-            Whose::Below { .. } => self.time.quality & 15 == UNFILLED,
-        }
     }
 
     // How long after its stamp the slot was written, in microseconds: less than 0 if it was written before.

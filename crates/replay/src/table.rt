@@ -1,7 +1,7 @@
 use crate::empty_run::EmptyRun;
 use crate::slot_line::SlotLine;
 use crate::whose::Whose;
-use std::alloc::{AllocError, Global};
+use std::alloc::Global;
 
 // How many slots are printed: the concentrator's own, and those of boxes below.
 #[derive(Clone, Copy)]
@@ -46,7 +46,7 @@ impl Table {
     }
 
     // Puts off an empty slot, with those that it follows.
-    fn put_off(&mut self, line: SlotLine) -> Result<(), AllocError> {
+    pub fn put_off(&mut self, line: SlotLine) -> anyhow::Result<()> {
         for run in self.runs.as_mut_slice() {
             if run.take(line) {
                 return Ok(());
@@ -56,12 +56,8 @@ impl Table {
         Ok(())
     }
 
-    // Prints a slot. An empty one is put off.
+    // Prints a slot with a frame.
     pub fn print(&mut self, rt: &impl Print, line: SlotLine) -> anyhow::Result<()> {
-        if line.is_empty() {
-            self.put_off(line)?;
-            return Ok(());
-        }
         self.flush(rt)?;
         println!(rt; "{line}")?;
         self.shown.count(line.whose, 1);
