@@ -1,14 +1,18 @@
 use common::{Fault, Port};
 use feed::Feed;
 use fixtures::number;
-use std::process::Abort;
-use std::test::Fail;
 
 // What every buffer is filled with before it is lent.
 const FILL: u8 = 0x55;
 
-fn check_filled(rt: &impl Abort, bytes: &[u8]) {
-    assert!(rt; bytes.iter().all(|byte| *byte == FILL));
+// An error that says what was found, unless what was due was.
+fn check(due: bool, otherwise: &'static str) -> Result<(), &'static str> {
+    due.then_some(()).ok_or(otherwise)
+}
+
+fn check_filled(bytes: &[u8]) -> Result<(), &'static str> {
+    let same = bytes.iter().all(|byte| *byte == FILL);
+    check(same, "bytes of a buffer changed that were to stay")
 }
 
 // A tick with a buffer of the least length.
@@ -18,36 +22,42 @@ pub fn tick<F: Feed>(feed: &mut F, reading: u64) -> Result<(), Fault> {
 }
 
 // That this frame is next, and is put at the front of a buffer whose rest stays as it was.
-pub fn check_next<F: Feed>(
-    rt: &impl Abort,
-    feed: &mut F,
-    port: u8,
-    frame: &[u8],
-) -> Result<(), Fail> {
+pub fn check_next<F: Feed>(feed: &mut F, port: u8, frame: &[u8]) -> Result<(), &'static str> {
     let mut buffer = [FILL; 1040];
-    let taken = feed.next(&mut buffer)?;
-    assert_eq!(rt; taken.port, Port(port));
-    assert_eq!(rt; taken.len, frame.len());
+    let taken = feed.next(&mut buffer).ok().ok_or("no frame is next")?;
+    check(taken.port == Port(port), "the next frame has another port")?;
+    check(
+        taken.len == frame.len(),
+        "the next frame has another length",
+    )?;
     let (front, rest) = buffer
         .split_at_checked(frame.len())
         .ok_or("a frame is too long")?;
-    assert!(rt; front == frame);
-    check_filled(rt, rest);
-    Ok(())
+    check(front == frame, "the next frame has other bytes")?;
+    check_filled(rest)
 }
 
 // That nothing waits, and the buffer stays as it was.
-pub fn check_idle<F: Feed>(rt: &impl Abort, feed: &mut F) {
+pub fn check_idle<F: Feed>(feed: &mut F) -> Result<(), &'static str> {
     let mut buffer = [FILL; 1040];
-    assert_eq!(rt; number(feed.next(&mut buffer)), 30);
-    check_filled(rt, &buffer);
+    check(
+        number(feed.next(&mut buffer)) == 30,
+        "a next is not answered 30",
+    )?;
+    check_filled(&buffer)
 }
 
 // That a buffer of one byte too few is refused by either call, and stays as it was.
-pub fn check_short<F: Feed>(rt: &impl Abort, feed: &mut F, reading: u64) {
+pub fn check_short<F: Feed>(feed: &mut F, reading: u64) -> Result<(), &'static str> {
     let mut buffer = [FILL; 1039];
-    assert_eq!(rt; number(feed.tick(reading, &mut buffer)), 17);
-    check_filled(rt, &buffer);
-    assert_eq!(rt; number(feed.next(&mut buffer)), 17);
-    check_filled(rt, &buffer);
+    check(
+        number(feed.tick(reading, &mut buffer)) == 17,
+        "a short tick is not answered 17",
+    )?;
+    check_filled(&buffer)?;
+    check(
+        number(feed.next(&mut buffer)) == 17,
+        "a short next is not answered 17",
+    )?;
+    check_filled(&buffer)
 }

@@ -1,4 +1,5 @@
-// Calls of a feed, with what they are to answer: what the tests of several feeds share.
+// Calls of a feed, with what they are to answer: what the tests of several feeds share. A library may not
+// end the process, so what is found wrong is an error.
 #![tactic(auto)]
 
 mod calls;

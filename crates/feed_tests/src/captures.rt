@@ -4,7 +4,6 @@ use feed_checks::{check_idle, check_next, tick};
 use fixtures::{Recording, number};
 use recorded::Recorded;
 use std::alloc::Global;
-use std::process::Abort;
 use std::test::Fail;
 
 // Stated here again, as a test gives its own values.
@@ -28,7 +27,7 @@ fn frames_wait_in_their_order_once_they_have_come(rt: HostRuntime) -> Result<(),
         (u64::MAX, &[(4, 4)], true),
         (u64::MAX, &[], true),
     ];
-    check_steps(&rt, &mut feed, &steps)
+    check_steps(&mut feed, &steps)
 }
 
 #[test]
@@ -42,15 +41,15 @@ fn a_falling_reading_adds_nothing(rt: HostRuntime) -> Result<(), Fail> {
         (5, &[], true),
         (7, &[(1, 2)], true),
     ];
-    check_steps(&rt, &mut feed, &steps)
+    check_steps(&mut feed, &steps)
 }
 
 // The soundness of a capture of which nothing ever waits.
-fn check_empty(rt: &impl Abort, bytes: &[u8]) -> Result<u8, Fail> {
+fn check_empty(bytes: &[u8]) -> Result<u8, Fail> {
     let mut feed = Recorded::over(bytes);
-    check_idle(rt, &mut feed);
+    check_idle(&mut feed)?;
     tick(&mut feed, u64::MAX)?;
-    check_idle(rt, &mut feed);
+    check_idle(&mut feed)?;
     Ok(soundness(&feed))
 }
 
@@ -61,32 +60,26 @@ fn an_unsound_capture_stays_empty(rt: HostRuntime) -> Result<(), Fail> {
     let bytes = built.bytes();
     assert_eq!(rt; bytes.len(), 41);
     // a bare header is sound, and so are the first two records
-    assert_eq!(rt; check_empty(&rt, &bytes[0..5])?, 0);
+    assert_eq!(rt; check_empty(&bytes[0..5])?, 0);
     assert_eq!(rt; soundness(&Recorded::over(&bytes[0..29])), 0);
     // all three, a record that is cut short, and too few bytes for the header
     for end in [41, 40, 28, 6, 4, 0] {
-        assert_eq!(rt; check_empty(&rt, &bytes[0..end])?, 13);
+        assert_eq!(rt; check_empty(&bytes[0..end])?, 13);
     }
     Ok(())
 }
 
 // The soundness of a capture with one record, whose frame then waits if it is sound.
-fn one_record(
-    rt: &impl Abort,
-    heap: Global,
-    reading: u64,
-    port: u8,
-    len: usize,
-) -> Result<u8, Fail> {
+fn one_record(heap: Global, reading: u64, port: u8, len: usize) -> Result<u8, Fail> {
     let frame = vec![in heap; 0xaa; len]?;
     let mut built = Recording::new(heap)?;
     built.record(reading, port, frame.as_slice())?;
     let mut feed = Recorded::over(built.bytes());
     tick(&mut feed, reading)?;
     if feed.check().is_ok() {
-        check_next(rt, &mut feed, port, frame.as_slice())?;
+        check_next(&mut feed, port, frame.as_slice())?;
     }
-    check_idle(rt, &mut feed);
+    check_idle(&mut feed)?;
     Ok(soundness(&feed))
 }
 
@@ -102,7 +95,7 @@ fn one_record_at_its_limits(rt: HostRuntime) -> Result<(), Fail> {
         (0, 0, 1_041, 13),
     ];
     for (reading, port, len, expected) in cases {
-        assert_eq!(rt; one_record(&rt, rt.alloc(), reading, port, len)?, expected);
+        assert_eq!(rt; one_record(rt.alloc(), reading, port, len)?, expected);
     }
     Ok(())
 }

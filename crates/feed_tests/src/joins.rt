@@ -19,5 +19,5 @@ fn the_first_comes_before_the_second(rt: HostRuntime) -> Result<(), Fail> {
         (20, &[(1, 1), (1, 2), (2, 4)], false),
         (40, &[(1, 3), (1, 5), (2, 6)], true),
     ];
-    check_steps(&rt, &mut feed, &steps)
+    check_steps(&mut feed, &steps)
 }

@@ -6,7 +6,6 @@ use fixtures::Recording;
 use recorded::Recorded;
 use shift::{Shifted, Shifts};
 use std::alloc::{AllocError, Global};
-use std::process::Abort;
 use std::test::Fail;
 
 // A capture of the line `port`, with frames of the SOC 100 at the reading 10 and 200 at 20.
@@ -24,7 +23,6 @@ fn shifts() -> Shifts {
 
 // That the frames of line 1, with these SOCs and check words, come before those of line 2.
 fn check_lines<F: Feed + Drop>(
-    rt: &impl Abort,
     mut feed: F,
     first: [(u32, u16); 2],
     second: [(u32, u16); 2],
@@ -32,12 +30,12 @@ fn check_lines<F: Feed + Drop>(
     tick(&mut feed, 10)?;
     tick(&mut feed, 20)?;
     for (soc, check_word) in first {
-        check_next(rt, &mut feed, 1, &command(soc, check_word))?;
+        check_next(&mut feed, 1, &command(soc, check_word))?;
     }
     for (soc, check_word) in second {
-        check_next(rt, &mut feed, 2, &command(soc, check_word))?;
+        check_next(&mut feed, 2, &command(soc, check_word))?;
     }
-    check_idle(rt, &mut feed);
+    check_idle(&mut feed)?;
     Ok(())
 }
 
@@ -66,7 +64,7 @@ fn shifts_and_joins_in_any_order(rt: HostRuntime) -> Result<(), Fail> {
             map: shifts(),
         },
     };
-    check_lines(&rt, joined_shifted, LATER, EARLIER)?;
+    check_lines(joined_shifted, LATER, EARLIER)?;
     let shifted_joined = Shifted {
         feed: Joined {
             first: one,
@@ -74,7 +72,7 @@ fn shifts_and_joins_in_any_order(rt: HostRuntime) -> Result<(), Fail> {
         },
         map: shifts(),
     };
-    check_lines(&rt, shifted_joined, LATER, EARLIER)?;
+    check_lines(shifted_joined, LATER, EARLIER)?;
     let joined_joined = Joined {
         first: Joined {
             first: Silent,
@@ -88,7 +86,7 @@ fn shifts_and_joins_in_any_order(rt: HostRuntime) -> Result<(), Fail> {
             },
         },
     };
-    check_lines(&rt, joined_joined, PLAIN, PLAIN)?;
+    check_lines(joined_joined, PLAIN, PLAIN)?;
     let shifted_twice = Shifted {
         feed: Joined {
             first: Shifted {
@@ -102,5 +100,5 @@ fn shifts_and_joins_in_any_order(rt: HostRuntime) -> Result<(), Fail> {
         },
         map: shifts(),
     };
-    check_lines(&rt, shifted_twice, MUCH_LATER, EARLIER)
+    check_lines(shifted_twice, MUCH_LATER, EARLIER)
 }

@@ -27,12 +27,11 @@ fn a_leap_changes_nothing(rt: HostRuntime) -> Result<(), Fail> {
         u64::MAX,
     ] {
         tick(&mut feed, reading)?;
-        check_idle(&rt, &mut feed);
+        check_idle(&mut feed)?;
     }
     // the seconds 1000 to 1059 are over; the frame of the first comes too late
     tick(&mut feed, 1_060_000_000)?;
     check_text(
-        &rt,
         heap,
         &mut feed,
         5,
@@ -44,12 +43,11 @@ fn a_leap_changes_nothing(rt: HostRuntime) -> Result<(), Fail> {
         assert_eq!(rt; taken.len, 28);
     }
     check_text(
-        &rt,
         heap,
         &mut feed,
         5,
         "AA02 001C 0007 00000423 0F 000000 800080008000 800080008000 84A2",
     )?;
-    check_idle(&rt, &mut feed);
+    check_idle(&mut feed)?;
     Ok(())
 }

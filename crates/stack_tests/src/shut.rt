@@ -36,10 +36,10 @@ fn nothing_waits_at_a_shut_one(rt: HostRuntime) -> Result<(), Fail> {
             reading,
         );
         assert_eq!(rt; number(feed.check()), refusal);
-        check_short(&rt, &mut feed, OPENING);
+        check_short(&mut feed, OPENING)?;
         for clock in [OPENING, OPENING + 1_000_000, u64::MAX] {
             tick(&mut feed, clock)?;
-            check_idle(&rt, &mut feed);
+            check_idle(&mut feed)?;
         }
         assert_eq!(rt; number(feed.check()), refusal);
     }

@@ -56,7 +56,7 @@ fn a_frame_waits_once_its_slot_is_closed(rt: HostRuntime) -> Result<(), Fail> {
             Some("AA02 001C 0007 000003EA 0F 000000 800080008000 800080008000 6B89"),
         ),
     ];
-    check_steps(&rt, heap, &mut feed, 3, &steps)
+    check_steps(heap, &mut feed, 3, &steps)
 }
 
 #[test]
@@ -92,10 +92,10 @@ fn a_tick_takes_all_that_waits_below(rt: HostRuntime) -> Result<(), Fail> {
     let plan = plan(heap, 7, &[FIRST, SECOND], &mut [0; 84])?;
     let mut feed = lower(0, &plan, built.bytes());
     // a refused call does nothing
-    check_short(&rt, &mut feed, 1_000_030_000);
+    check_short(&mut feed, 1_000_030_000)?;
     let steps: [Step<'_>; 1] = [(
         1_000_030_000,
         Some("AA02 001C 0007 000003E8 02 000000 000000010002 000000030004 40BE"),
     )];
-    check_steps(&rt, heap, &mut feed, 0, &steps)
+    check_steps(heap, &mut feed, 0, &steps)
 }

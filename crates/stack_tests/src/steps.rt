@@ -2,26 +2,23 @@ use feed::Feed;
 use feed_checks::{check_idle, check_next, tick};
 use fixtures::from_hex;
 use std::alloc::Global;
-use std::process::Abort;
 use std::test::Fail;
 
 // That the frame of this hexadecimal text is next.
 pub(crate) fn check_text<F: Feed>(
-    rt: &impl Abort,
     heap: Global,
     feed: &mut F,
     port: u8,
     text: &str,
 ) -> Result<(), Fail> {
     let frame = from_hex(heap, text)?;
-    check_next(rt, feed, port, frame.as_slice())
+    Ok(check_next(feed, port, frame.as_slice())?)
 }
 
 // A tick with this reading, then the frame that is next, if one is, and no other.
 pub(crate) type Step<'a> = (u64, Option<&'a str>);
 
 pub(crate) fn check_steps<F: Feed>(
-    rt: &impl Abort,
     heap: Global,
     feed: &mut F,
     port: u8,
@@ -30,9 +27,9 @@ pub(crate) fn check_steps<F: Feed>(
     for (reading, frame) in steps {
         tick(feed, *reading)?;
         if let Some(frame) = *frame {
-            check_text(rt, heap, feed, port, frame)?;
+            check_text(heap, feed, port, frame)?;
         }
-        check_idle(rt, feed);
+        check_idle(feed)?;
     }
     Ok(())
 }
