@@ -1,8 +1,10 @@
-// Concentrators under others: what waits at one, and two of them under a third.
+// Concentrators under others: what waits at one, two of them under a third, and three one under the other.
 #![tactic(auto)]
 
 #[cfg(test)]
 mod build;
+#[cfg(test)]
+mod deep;
 #[cfg(test)]
 mod lagging;
 #[cfg(test)]

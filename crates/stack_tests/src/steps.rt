@@ -1,6 +1,9 @@
+use common::Fault;
+use concentrator::Concentrator;
 use feed::Feed;
 use feed_checks::{check_idle, check_next, tick};
 use fixtures::from_hex;
+use policy::Absolute;
 use std::alloc::Global;
 use std::test::Fail;
 
@@ -31,5 +34,37 @@ pub(crate) fn check_steps<F: Feed>(
         }
         check_idle(feed)?;
     }
+    Ok(())
+}
+
+// Ticks, and pulls until nothing waits: how many frames were accepted.
+pub(crate) fn advance<F: Feed>(
+    upper: &mut Concentrator<F, Absolute>,
+    reading: u64,
+) -> Result<u32, Fault> {
+    let mut buffer = [0; 1040];
+    upper.tick(reading, &mut buffer)?;
+    for accepted in 0..10 {
+        match upper.pull(&mut buffer) {
+            Ok(pulled) => pulled.verdict?,
+            Err(Fault::NothingWaits) => return Ok(accepted),
+            Err(fault) => return Err(fault),
+        }
+    }
+    Ok(10)
+}
+
+// That this frame is the next that is written.
+pub(crate) fn check_written<F: Feed>(
+    rt: &impl Abort,
+    heap: Global,
+    upper: &mut Concentrator<F, Absolute>,
+    frame: &str,
+) -> Result<(), Fail> {
+    let frame = from_hex(heap, frame)?;
+    let ticket = upper.take()?;
+    let mut out = [0; 1040];
+    let written = upper.write(ticket, &mut out)?;
+    assert!(rt; &out[..written.len] == frame.as_slice());
     Ok(())
 }

@@ -1,45 +1,12 @@
 // Two boxes under a third, which waits 200 milliseconds for a slot.
-use crate::build::{FIRST, Lower, OPENING, SECOND, lower, plan, recording};
-use common::{Fault, IdCode};
+use crate::build::{FIRST, OPENING, SECOND, lower, plan, recording};
+use crate::steps::{advance, check_written};
+use common::IdCode;
 use concentrator::Concentrator;
 use feed::Joined;
-use fixtures::from_hex;
 use plan::Plan;
 use policy::Absolute;
-use std::alloc::Global;
-use std::process::Abort;
 use std::test::Fail;
-
-type Upper<'a> = Concentrator<Joined<Lower<'a>, Lower<'a>>, Absolute>;
-
-// Ticks, and pulls until nothing waits: how many frames were accepted.
-fn advance(upper: &mut Upper<'_>, reading: u64) -> Result<u32, Fault> {
-    let mut buffer = [0; 1040];
-    upper.tick(reading, &mut buffer)?;
-    for accepted in 0..10 {
-        match upper.pull(&mut buffer) {
-            Ok(pulled) => pulled.verdict?,
-            Err(Fault::NothingWaits) => return Ok(accepted),
-            Err(fault) => return Err(fault),
-        }
-    }
-    Ok(10)
-}
-
-// That this frame is the next that is written.
-fn check_written(
-    rt: &impl Abort,
-    heap: Global,
-    upper: &mut Upper<'_>,
-    frame: &str,
-) -> Result<(), Fail> {
-    let frame = from_hex(heap, frame)?;
-    let ticket = upper.take()?;
-    let mut out = [0; 1040];
-    let written = upper.write(ticket, &mut out)?;
-    assert!(rt; &out[..written.len] == frame.as_slice());
-    Ok(())
-}
 
 #[test]
 fn two_boxes_stand_under_a_third(rt: HostRuntime) -> Result<(), Fail> {
