@@ -5,6 +5,7 @@ use feed_checks::{check_idle, check_next, tick};
 use fixtures::from_hex;
 use policy::Absolute;
 use std::alloc::Global;
+use std::process::Abort;
 use std::test::Fail;
 
 // That the frame of this hexadecimal text is next.
