@@ -10,7 +10,7 @@ use feed::{Feed, check_room};
 use policy::Policy;
 
 // A frame that was pulled from the feed: its line, its length, and what became of it.
-// Its fields side by side, as hosts print them: with a `Taken` within, it would be no plainer.
+// Its fields side by side, as a host copies them into its journal: with a `Taken` within, it would be no plainer.
 #[derive(Clone, Copy)]
 pub struct Pulled {
     pub port: Port,

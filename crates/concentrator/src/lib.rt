@@ -9,5 +9,5 @@ mod ticket;
 
 pub use calls::{Pulled, Written};
 pub use concentrator::Concentrator;
-pub use engine::{Counts, EARLIEST, LONGEST_STEP};
+pub use engine::{Counts, EARLIEST, LONGEST_STEP, REFUSALS};
 pub use ticket::Ticket;

@@ -16,7 +16,7 @@ impl Ticket {
         Ticket { number }
     }
 
-    // The number of the ticket's slot.
+    // The number of the ticket's slot. No `From`: it would take the ticket, which only a write spends.
     pub fn number(&self) -> u64
         ensures { result ≡ self.now.number }
     {

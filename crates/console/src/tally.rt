@@ -1,24 +1,5 @@
-use common::Fault;
-use concentrator::Counts;
+use concentrator::{Counts, REFUSALS};
 use std::fmt;
-
-// The refusals that a frame can get, in the order of their numbers.
-const REFUSALS: [Fault; 14] = [
-    Fault::Short,
-    Fault::Sync,
-    Fault::FrameSize,
-    Fault::CheckWord,
-    Fault::FrameType,
-    Fault::IdCode,
-    Fault::Count,
-    Fault::NoSlot,
-    Fault::Length,
-    Fault::TooEarly,
-    Fault::Port,
-    Fault::Closed,
-    Fault::Repeated,
-    Fault::TooFarAhead,
-];
 
 // Counts, shown as the frames accepted, the slots written, and each number that frames were refused by.
 #[derive(Clone, Copy)]

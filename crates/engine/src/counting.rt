@@ -20,6 +20,7 @@ impl Counts {
         ensures { result ≡ (counts_of self.now).given (number_of fault) }
     {
         let number = usize::from(fault.number());
+        // a number that no frame can be given was given to none
         self.given.get(number).copied().unwrap_or(0)
     }
 

@@ -1,6 +1,25 @@
 ghost use Rattle.std.specs.Prelude.{◌≡◌, length, sum};
 
 use crate::admit::VERDICTS;
+use common::Fault;
+
+// What a frame can be refused with, by rising number.
+pub const REFUSALS: [Fault; 14] = [
+    Fault::Short,
+    Fault::Sync,
+    Fault::FrameSize,
+    Fault::CheckWord,
+    Fault::FrameType,
+    Fault::IdCode,
+    Fault::Count,
+    Fault::NoSlot,
+    Fault::Length,
+    Fault::TooEarly,
+    Fault::Port,
+    Fault::Closed,
+    Fault::Repeated,
+    Fault::TooFarAhead,
+];
 
 // How many slots were written so far, how many frames were judged, and how many of these were given
 // each number, 0 for those accepted.

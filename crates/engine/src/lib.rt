@@ -18,6 +18,6 @@ mod tick;
 mod write;
 
 pub use closing::EARLIEST;
-pub use counts::Counts;
+pub use counts::{Counts, REFUSALS};
 pub use engine::Engine;
 pub use tick::LONGEST_STEP;

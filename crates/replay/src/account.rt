@@ -1,24 +1,5 @@
-use common::Fault;
-use concentrator::Counts;
+use concentrator::{Counts, REFUSALS};
 use std::fmt;
-
-// What a frame can be refused with, by number.
-const REFUSALS: [Fault; 14] = [
-    Fault::Short,
-    Fault::Sync,
-    Fault::FrameSize,
-    Fault::CheckWord,
-    Fault::FrameType,
-    Fault::IdCode,
-    Fault::Count,
-    Fault::NoSlot,
-    Fault::Length,
-    Fault::TooEarly,
-    Fault::Port,
-    Fault::Closed,
-    Fault::Repeated,
-    Fault::TooFarAhead,
-];
 
 // What a concentrator has counted, beside what else is known of its run.
 #[derive(Clone, Copy)]

@@ -63,6 +63,7 @@ impl Pile {
         let (front, back) = lines.as_slice().split_at(lines.len().div_ceil(2));
         let first = Lower::of(heap, records, front, FIRST)?;
         let second = Lower::of(heap, records, back, SECOND)?;
+        // two lines have a record each, so there is a last one
         let reading = records.last().map_or(0, |record| record.reading);
         let upper = build_upper(heap, &first, &second, reading)?;
         Ok(Pile {

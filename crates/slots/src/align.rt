@@ -31,7 +31,7 @@ impl Rate {
     }
 
     // The slot of a frame with the SOC and the count, from a sender with the time base; none if the count is of no slot.
-    // Three numbers, as this crate stands below `wire`, whose time tags have the SOC and the count.
+    // Three numbers, as this crate does without `wire`, whose time tags have the SOC and the count.
     pub fn slot_of(self, time_base: u32, soc: u32, count: u32) -> Option<u64>
         ensures answer { result ≡ slot_of (frames_of self) time_base soc count }
         ensures laws { AlignedBelongs × BelongsAligns × UniquePlace }
