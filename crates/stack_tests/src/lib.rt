@@ -10,7 +10,7 @@ mod lagging;
 #[cfg(test)]
 mod shut;
 #[cfg(test)]
-mod slots;
+mod waiting;
 #[cfg(test)]
 mod steps;
 #[cfg(test)]
