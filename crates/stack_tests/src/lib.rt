@@ -10,8 +10,8 @@ mod lagging;
 #[cfg(test)]
 mod shut;
 #[cfg(test)]
-mod waiting;
-#[cfg(test)]
 mod steps;
 #[cfg(test)]
 mod upper;
+#[cfg(test)]
+mod waiting;
