@@ -1,3 +1,8 @@
+ghost use Rattle.feed.specs.Calls.{pick};
+ghost use Rattle.feed.specs.Feeds.{Next, Tick, after};
+ghost use Rattle.feed_checks.specs.Checks.{IsNext};
+ghost use Rattle.std.specs.Prelude.{◌≡◌, ◌≢◌, IfErr, IfOk, Ok, [], false, true};
+
 use common::{Fault, Port};
 use feed::Feed;
 use fixtures::number;
@@ -6,7 +11,10 @@ use fixtures::number;
 const FILL: u8 = 0x55;
 
 // An error that says what was found, unless what was due was.
-fn check(due: bool, otherwise: &'static str) -> Result<(), &'static str> {
+fn check(due: bool, otherwise: &'static str) -> Result<(), &'static str>
+    ensures ok { IfOk result (λ _. due ≡ true) }
+    ensures err { IfErr result (λ _. due ≡ false) }
+{
     due.then_some(()).ok_or(otherwise)
 }
 
@@ -16,13 +24,19 @@ fn check_filled(bytes: &[u8]) -> Result<(), &'static str> {
 }
 
 // A tick with a buffer of the least length.
-pub fn tick<F: Feed>(feed: &mut F, reading: u64) -> Result<(), Fault> {
+pub fn tick<F: Feed>(feed: &mut F, reading: u64) -> Result<(), Fault>
+    ensures answer { result ≡ Ok tt }
+    ensures left { (F.meaning feed.new).waits ≡ after (F.meaning feed.old).waits (Tick reading) }
+{
     let mut scratch = [FILL; 1040];
     feed.tick(reading, &mut scratch)
 }
 
 // That this frame is next, and is put at the front of a buffer whose rest stays as it was.
-pub fn check_next<F: Feed>(feed: &mut F, port: u8, frame: &[u8]) -> Result<(), &'static str> {
+pub fn check_next<F: Feed>(feed: &mut F, port: u8, frame: &[u8]) -> Result<(), &'static str>
+    ensures next { IfOk result (λ _. IsNext ((F.meaning feed.old).waits []) port frame.now) }
+    ensures left { (F.meaning feed.new).waits ≡ pick ((F.meaning feed.old).waits []) (after (F.meaning feed.old).waits Next) (F.meaning feed.old).waits }
+{
     let mut buffer = [FILL; 1040];
     let taken = feed.next(&mut buffer).ok().ok_or("no frame is next")?;
     check(taken.port == Port(port), "the next frame has another port")?;
@@ -38,7 +52,10 @@ pub fn check_next<F: Feed>(feed: &mut F, port: u8, frame: &[u8]) -> Result<(), &
 }
 
 // That nothing waits, and the buffer stays as it was.
-pub fn check_idle<F: Feed>(feed: &mut F) -> Result<(), &'static str> {
+pub fn check_idle<F: Feed>(feed: &mut F) -> Result<(), &'static str>
+    ensures idle { IfOk result (λ _. (F.meaning feed.old).waits [] ≡ []) }
+    ensures left { (F.meaning feed.new).waits ≡ pick ((F.meaning feed.old).waits []) (after (F.meaning feed.old).waits Next) (F.meaning feed.old).waits }
+{
     let mut buffer = [FILL; 1040];
     check(
         number(feed.next(&mut buffer)) == 30,
@@ -48,7 +65,9 @@ pub fn check_idle<F: Feed>(feed: &mut F) -> Result<(), &'static str> {
 }
 
 // That a buffer of one byte too few is refused by either call, and stays as it was.
-pub fn check_short<F: Feed>(feed: &mut F, reading: u64) -> Result<(), &'static str> {
+pub fn check_short<F: Feed>(feed: &mut F, reading: u64) -> Result<(), &'static str>
+    ensures left { (F.meaning feed.new).waits ≡ (F.meaning feed.old).waits }
+{
     let mut buffer = [FILL; 1039];
     check(
         number(feed.tick(reading, &mut buffer)) == 17,

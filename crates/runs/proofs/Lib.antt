@@ -4,3 +4,4 @@ pub mod Laid
 pub mod Followed
 mod Outs
 mod Listed
+pub mod Listing

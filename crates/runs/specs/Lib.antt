@@ -9,4 +9,5 @@ pub mod Events
 pub mod Given
 pub mod Standing
 pub mod Kept
+pub mod Laws
 pub mod Tickets

@@ -5,6 +5,7 @@
 mod call;
 mod entry;
 mod host;
+mod law;
 mod make;
 mod open;
 mod run;
@@ -13,3 +14,4 @@ mod tickets;
 pub use call::Call;
 pub use entry::{Entry, PulledFrame};
 pub use host::Host;
+pub use law::calls_keep_the_law;
