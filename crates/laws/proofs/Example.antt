@@ -1,11 +1,12 @@
 -- The example's setting and its two runs, computed.
-use Rattle.std.proofs.Common.{◌≡◌, ℕ, suc, ◌+◌, ◌*◌, ◌/◌, ◌<◌, List, [], ◌∷◌, sym, refl, inl, inr, arith}
+use Rattle.std.proofs.Common.{◌≡◌, ℕ, suc, ◌+◌, ◌*◌, ◌/◌, ◌<◌, List, [], ◌∷◌, sym, refl, subst, inl, inr, arith}
 use Rattle.std.proofs.lemmas.Bool.{ne_eqb}
 use Rattle.std.proofs.lemmas.Bool.Decides.{leb_tells}
 use Rattle.laws.specs.Setting.{Setting, Fault, Slot}
-use Rattle.laws.specs.Journal.{start, ◌▹◌, all, more, Ticking, Admitting, Pulling, Taking}
-use Rattle.laws.specs.Machine.{highest, beyond, journal}
+use Rattle.laws.specs.Journal.{start, ◌▹◌, ◌≼◌, all, more, Journal, Wrote, Ticking, Admitting, Pulling, Taking}
+use Rattle.laws.specs.Machine.{highest, beyond, journal, state}
 use Rattle.laws.specs.Bytes.{Layout}
+use Rattle.laws.specs.Laws.{Gave}
 use Rattle.laws.specs.Example.{reads, valued, combines, single, silent, Shown, ExampleStands}
 
 reads_fault : (p : ℕ) (b : List ℕ) (k : ℕ) → reads p b ≡ Fault k → (0 < k) × (k < 20)
@@ -49,6 +50,10 @@ ex = record {
 layout : Layout
 layout = record { before = 1; head = λ n x. n ∷ []; headed = λ n x. refl; width = λ p. 1; block = λ p o. valued o ∷ []; sized = λ p o. refl; tail = λ n x. 170 ∷ [] }
 
+-- a write whose bytes are known
+gave_so : {J : Journal} (K : Journal) (len n : ℕ) (x : List ℕ) {y : List ℕ} → K ▹ Wrote len n x ≼ J → x ≡ y → Gave J n y
+gave_so {J} K len n x w e = (K, len, subst (λ (z : List ℕ). K ▹ Wrote len n z ≼ J) e w)
+
 shown : Shown ex
 unfolding highest beyond layout
 shown = record {
@@ -57,7 +62,10 @@ shown = record {
   clear = (refl, refl);
   laid = (layout, λ n x. refl);
   early = (journal ex silent (start ▹ Admitting 0 (50 ∷ (7 ∷ [])) ▹ Admitting 1 (50 ∷ (9 ∷ [])) ▹ Taking), 100, more all);
-  late = (journal ex (single (record { port = 0; bytes = 50 ∷ (7 ∷ []) })) (start ▹ Pulling 1040 ▹ Ticking 1100000 1040 ▹ Taking), 100, all);
+  late =
+      let waiting = single (record { port = 0; bytes = 50 ∷ (7 ∷ []) }) in
+      let calls = start ▹ Pulling 1040 ▹ Ticking 1100000 1040 ▹ Taking in
+      gave_so (journal ex waiting calls) 100 50 (combines 50 ((state ex waiting calls).held 50)) all cc;
 }
 
 pub example : ExampleStands

@@ -128,7 +128,9 @@ module _ (g : Setting) (s : State) (J : Journal) (i : Inv g s J) (q : ℕ) (b : 
   other_unripe m a ne = rw (ne_eqb n m ne) (i.unripe m a)
 
   later-unripe : is_some (s.arrived n) ≡ true → ripe g (put s q b n) n ≡ false
-  later-unripe e = rw (eq-eqb n n refl, some_else (s.arrived n) (Some s.latest) e) (i.unripe n up)
+  later-unripe e =
+      let same : (put s q b n).arrived n ≡ s.arrived n = cc (eq-eqb n n refl, some_else (s.arrived n) (Some s.latest) e) in
+      rw same (i.unripe n up)
 
   abbrev top : ℕ
   top = highest (ripe g (put s q b n)) (g.upto s.latest)
@@ -163,8 +165,7 @@ module _ (g : Setting) (s : State) (J : Journal) (i : Inv g s J) (q : ℕ) (b : 
     | inl r ↦ elim (cases_Bool (is_some (s.arrived n))) [
       | inl a ↦ absurd (both_ways (ripe g (put s q b n) n) (later-unripe a) r)
       | inr a ↦
-          subst (λ (t : Bool). cond (not t && ripe g (put s q b n) n) (max s.front (n + 1)) s.front ≡ past_ripe_of g (put s q b n)) (sym a)
-          (subst (λ (t : Bool). cond t (max s.front (n + 1)) s.front ≡ past_ripe_of g (put s q b n)) (sym r) (ap (max s.front) (sym (own-ripe r))))
+          cc (a, r, own-ripe r)
     ]
     | inr r ↦
         let l = none-ripe r in
@@ -224,10 +225,11 @@ module _ (g : Setting) (s : State) (J : Journal) (i : Inv g s J) where
     | false ↦ same_step g s J (Refused (Writing n len) k) i refl refl (λ p n. refl) (λ n. refl)
   ]
 
-  ticked-step : (r len : ℕ) → r ≤ 4000000000000000 → Step g s J (Ticked r len)
-  ticked-step r len in_use = settle g (timed s (max r s.latest)) (J ▹ Ticked r len) (record {
-    latest = ap (max r) i.base.latest;
-    usable = omega (arith, i.base.usable);
+  -- the reading goes up to l, which is the latest now
+  timed-step : (r len l : ℕ) → l ≡ latest g (J ▹ Ticked r len) → s.latest ≤ l → l ≤ 4000000000000000 → Inv g (settled g (timed s l)) (J ▹ Ticked r len)
+  timed-step r len l is up in_use = settle g (timed s l) (J ▹ Ticked r len) (record {
+    latest = is;
+    usable = in_use;
     written = i.base.written;
     held = i.base.held;
     arrived = i.base.arrived;
@@ -237,6 +239,12 @@ module _ (g : Setting) (s : State) (J : Journal) (i : Inv g s J) where
     closes = λ n x y. still (i.base.closes n x y);
     out = i.base.out;
   })
+
+  ticked-step : (r len : ℕ) → r ≤ 4000000000000000 → Step g s J (Ticked r len)
+  ticked-step r len in_use =
+      let l = (next g s (Ticked r len)).latest in
+      let is : l ≡ latest g (J ▹ Ticked r len) = cc (i.base.latest) in
+      timed-step r len l is (omega arith) (omega (arith, i.base.usable))
 
   lent-step : oldest g s < s.front → Step g s J (Lent (oldest g s))
   lent-step f = record {

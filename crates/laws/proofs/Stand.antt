@@ -54,9 +54,10 @@ agreement g B C J K r s p ig same z y = record {
   where
     alike : (q n : ℕ) → (q ≡ p → ⊥) → accepted g J q n ≡ accepted g K q n
     alike q n ne =
+        let never : tally K 22 ≡ 0 = cc in
         for_all g B (λ J. tally J 22 ≡ 0 → accepted g J q n ≡ in_time g q n (seen g q J)) (λ cs. from-seen g ig B cs q n) J r z
         ∙ ap (in_time g q n) (same q ne)
-        ∙ sym (for_all g C (λ J. tally J 22 ≡ 0 → accepted g J q n ≡ in_time g q n (seen g q J)) (λ cs. from-seen g ig C cs q n) K s y)
+        ∙ sym (for_all g C (λ J. tally J 22 ≡ 0 → accepted g J q n ≡ in_time g q n (seen g q J)) (λ cs. from-seen g ig C cs q n) K s never)
 
 pub runs : (g : Setting) → Runs g
 runs g = record { order = order g; account = account g; agreement = agreement g; prompt = λ B. for_all g B (λ J. PromptHost g J → tally J 22 ≡ 0) (prompt g B) }

@@ -1,5 +1,5 @@
 -- Why a call answered as it did: the cases that the proofs about calls go through, found once.
-use Rattle.std.proofs.Common.{◌≡◌, ℕ, suc, ◌+◌, ◌<◌, ◌≤◌, true, false, ◌⊎◌, List, [], ◌∷◌, is_some, Some, None, Option, sym, refl, ap, inl, inr, arith}
+use Rattle.std.proofs.Common.{◌≡◌, ℕ, suc, ◌+◌, ◌<◌, ◌≤◌, true, false, ◌⊎◌, List, [], ◌∷◌, is_some, Some, None, Option, sym, refl, ap, subst, inl, inr, arith}
 use Rattle.std.proofs.lemmas.Bool.{cases_Bool, both_ways, eqb-true, eqb-false}
 use Rattle.std.proofs.lemmas.Bool.Decides.{leb_tells}
 use Rattle.laws.specs.Setting.{Setting, Sort, Fault, Slot}
@@ -16,20 +16,24 @@ pub data Judging (g : Setting) (s : State) (q : ℕ) : Sort → ℕ → Type 0 w
   again : {n : ℕ} → g.stamp n ≤ s.latest + 100000 → s.front ≤ n → n < oldest g s + 32 → is_some (s.held n q) ≡ true → Judging g s q (Slot n) 21
   fresh : {n : ℕ} → g.stamp n ≤ s.latest + 100000 → s.front ≤ n → n < oldest g s + 32 → is_some (s.held n q) ≡ false → Judging g s q (Slot n) 0
 
+-- one verdict, by another that it equals
+as_said : {g : Setting} {s : State} {q : ℕ} {o : Sort} {v w : ℕ} → w ≡ v → Judging g s q o v → Judging g s q o w
+as_said {g} {s} {q} {o} e x = subst (Judging g s q o) (sym e) x
+
 pub judging : (g : Setting) (s : State) (q : ℕ) (o : Sort) → ((k : ℕ) → o ≡ Fault k → (0 < k) × (k < 20)) → Judging g s q o (judge_in g s q o)
 judging g s q (Fault k) h = faulty (h k refl)
 judging g s q (Slot n) h = elim (leb_tells (suc (s.latest + 100000)) (g.stamp n)) [
-  | inl a ↦ rw a.0 (far a.1)
-  | inr a ↦ let near : g.stamp n ≤ s.latest + 100000 = omega (arith, a.1) in rw a.0 (elim (leb_tells (suc n) s.front) [
-    | inl b ↦ rw b.0 (late near b.1)
-    | inr b ↦ let up : s.front ≤ n = omega (arith, b.1) in rw b.0 (elim (leb_tells (oldest g s + 32) n) [
-      | inl c ↦ rw c.0 (ahead near up c.1)
-      | inr c ↦ rw c.0 (elim (cases_Bool (is_some (s.held n q))) [
-        | inl d ↦ rw d (again near up c.1 d)
-        | inr d ↦ rw d (fresh near up c.1 d)
-      ])
-    ])
-  ])
+  | inl a ↦ as_said (cc (a.0)) (far a.1)
+  | inr a ↦ let near : g.stamp n ≤ s.latest + 100000 = omega (arith, a.1) in elim (leb_tells (suc n) s.front) [
+    | inl b ↦ as_said (cc (a.0, b.0)) (late near b.1)
+    | inr b ↦ let up : s.front ≤ n = omega (arith, b.1) in elim (leb_tells (oldest g s + 32) n) [
+      | inl c ↦ as_said (cc (a.0, b.0, c.0)) (ahead near up c.1)
+      | inr c ↦ elim (cases_Bool (is_some (s.held n q))) [
+        | inl d ↦ as_said (cc (a.0, b.0, c.0, d)) (again near up c.1 d)
+        | inr d ↦ as_said (cc (a.0, b.0, c.0, d)) (fresh near up c.1 d)
+      ]
+    ]
+  ]
 ]
 
 pub no_some : {A : Type 0} (k : A) → None ≡ Some k → ⊥

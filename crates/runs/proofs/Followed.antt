@@ -36,7 +36,7 @@ module _ (e : E.Setting) (closing : E.Closing) (bound reading : ℕ) (o : Opened
   left s (ticking r scratch) = tick-next e closing bound reading o s r scratch
   left s (admitting q bytes) = admit_next e closing bound reading o s q bytes
   left s (pulling buffer) = pull_next e closing bound reading o s buffer
-  left s taking = take_next e closing bound reading o s
+  left s taking = cc (take_next e closing bound reading o s)
   left s (writing n room) = write-next e closing bound reading o s n room
   left s counting = refl
 
