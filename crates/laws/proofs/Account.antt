@@ -7,7 +7,8 @@ use Rattle.feed.specs.Feeds.{Behaviour, Waiting, Op, Tick, Next, Within, within_
 use Rattle.laws.specs.Journal.{Past, start, ◌▹◌, Call, Ticking, Admitting, Pulling, Taking, Writing, Counting, Source, Host, Feed, Event, Took, Told, Refused, Journal, one, latest, tally, total, judged, ticket_out, admitted, added, ops}
 use Rattle.laws.specs.Machine.{State, settled_by, put, placed, tallied, without, next, state, journal}
 use Rattle.laws.specs.Answers.{Counts}
-use Rattle.laws.proofs.Inv.{Inv, run}
+use Rattle.laws.proofs.Inv.{Inv}
+use Rattle.laws.proofs.Steps.{run}
 use Rattle.laws.proofs.Why.{Judging, faulty, far, late, ahead, again, fresh, by-feed, Answered, ticked, took, lent, wrote, told, refused as refuse, answered}
 
 -- one more frame with verdict u

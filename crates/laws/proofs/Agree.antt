@@ -8,7 +8,8 @@ use Rattle.laws.specs.Journal.{Past, start, ◌▹◌, ◌≼◌, all, more, Cal
 use Rattle.laws.specs.Machine.{State, ripe, highest, event, state, journal}
 use Rattle.laws.specs.Laws.{IgnoresArrivals, Gave}
 use Rattle.laws.proofs.Fronts.{highest-above, highest_why}
-use Rattle.laws.proofs.Inv.{Inv, is_ripe, run}
+use Rattle.laws.proofs.Inv.{Inv, is_ripe}
+use Rattle.laws.proofs.Steps.{run}
 use Rattle.laws.proofs.Why.{Judging, faulty, far, late, ahead, again, fresh, Answered, ticked, took, lent, wrote, told, refused, answered}
 use Rattle.laws.proofs.Order.{orderly, frame-kept}
 

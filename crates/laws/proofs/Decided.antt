@@ -8,7 +8,8 @@ use Rattle.laws.specs.Journal.{Past, start, ◌▹◌, Call, Ticking, Admitting,
 use Rattle.laws.specs.Answers.{Open, Verdict, From, Due, Right}
 use Rattle.laws.specs.Answers
 use Rattle.laws.specs.Machine.{judge_in, judge, limit, pulls, is_out, event, state, journal}
-use Rattle.laws.proofs.Inv.{framed, run}
+use Rattle.laws.proofs.Inv.{framed}
+use Rattle.laws.proofs.Steps.{run}
 use Rattle.laws.proofs.Order.{closed-below}
 use Rattle.laws.proofs.Account.{books, waiting}
 use Rattle.laws.proofs.Why.{out_is}

@@ -7,7 +7,8 @@ use Rattle.laws.specs.Journal.{Past, start, ◌▹◌, Call, Source, Event, Lent
 use Rattle.laws.specs.Answers.{Open, Verdict, From, Due, Right}
 use Rattle.laws.specs.Answers
 use Rattle.laws.specs.Machine.{state, journal}
-use Rattle.laws.proofs.Inv.{framed, run}
+use Rattle.laws.proofs.Inv.{framed}
+use Rattle.laws.proofs.Steps.{run}
 use Rattle.laws.proofs.Order.{closed-below}
 use Rattle.laws.proofs.Account.{books, waiting, told_is}
 use Rattle.laws.proofs.Why

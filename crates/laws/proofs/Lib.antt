@@ -1,6 +1,7 @@
 pub mod Fronts
 pub mod Why
 pub mod Inv
+pub mod Steps
 pub mod Order
 pub mod Agree
 pub mod Prompt

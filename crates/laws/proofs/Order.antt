@@ -7,7 +7,8 @@ use Rattle.feed.specs.Feeds.{Behaviour}
 use Rattle.laws.specs.Journal.{Past, start, ◌▹◌, ◌≼◌, all, more, Call, Ticking, Admitting, Pulling, Taking, Writing, Counting, Event, Ticked, Took, Lent, Wrote, Told, Refused, Journal, or_else, latest, frame_of, having, accepted, frame_at, arrival, Ripe, Complete, Closed, by_time, by_frames, still}
 use Rattle.laws.specs.Machine.{State, full, ripe, past_ripe_of, settled, ripened_by, settled_by, ticket, event, put, placed, timed, without, next, state, journal}
 use Rattle.laws.specs.Laws.{Orderly}
-use Rattle.laws.proofs.Inv.{framed, is_ripe, is_full, past_up, run}
+use Rattle.laws.proofs.Inv.{framed, is_ripe, is_full, past_up}
+use Rattle.laws.proofs.Steps.{run}
 use Rattle.laws.proofs.Why.{Judging, faulty, far, late, ahead, again, fresh, Answered, ticked, took, lent, wrote, told, refused, answered}
 
 -- each beginning of a run's journal is the journal of a run

@@ -6,7 +6,8 @@ use Rattle.feed.specs.Feeds.{Behaviour}
 use Rattle.laws.specs.Journal.{Past, start, ◌▹◌, ◌≼◌, all, more, Call, Source, Event, Took, Journal, one, Closed, writes, tally}
 use Rattle.laws.specs.Machine.{State, oldest, event, state, journal}
 use Rattle.laws.specs.Laws.{PromptHost}
-use Rattle.laws.proofs.Inv.{Inv, run}
+use Rattle.laws.proofs.Inv.{Inv}
+use Rattle.laws.proofs.Steps.{run}
 use Rattle.laws.proofs.Why.{Judging, faulty, far, late, ahead, again, fresh, Answered, ticked, took, lent, wrote, told, refused, answered}
 
 module _ (g : Setting) (s : State) (J : Journal) (i : Inv g s J) where

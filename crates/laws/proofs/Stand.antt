@@ -7,7 +7,7 @@ use Rattle.laws.specs.Answers.{Right, Counts}
 use Rattle.laws.specs.Machine.{state, journal, onto, answers}
 use Rattle.laws.specs.Bytes.{Layout, Lays, part}
 use Rattle.laws.specs.Laws.{Orderly, Order, Account, Agreement, PromptHost, Gave, Runs, Keeps}
-use Rattle.laws.proofs.Inv.{run}
+use Rattle.laws.proofs.Steps.{run}
 use Rattle.laws.proofs.Order.{closed-below, orderly, kept, frame-kept, bounded, reason}
 use Rattle.laws.proofs.Account.{books, sums, told_is, within-length}
 use Rattle.laws.proofs.Agree.{in_time, from-seen, given}
