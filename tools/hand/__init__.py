@@ -1,0 +1,1 @@
+"""Lists of calls for the console, with answers that were worked out by hand: a module for each subject."""
