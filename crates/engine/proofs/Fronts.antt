@@ -59,6 +59,11 @@ module _ (t : ℕ → Bool) where
   told-beyond (Some x) j f d e h = ap (λ o. unwrap_or o d) e ∙ found-beyond j f d h
   told-beyond None j f d e h = ap (λ o. unwrap_or o d) e ∙ found-beyond j f d h
 
+  pub beyond-stays : (j f : ℕ) → t f ≡ false → beyond t j f ≡ f
+  unfolding beyond
+  beyond-stays zero f h = refl
+  beyond-stays (suc j) f h = rw h refl
+
   pub beyond-within : (j f : ℕ) → beyond t j f ≤ f + j
   unfolding beyond
   beyond-within zero f = omega arith

@@ -1,5 +1,5 @@
 -- What a plan knows of each port, and the sums over its ports that its limits are about.
-use Rattle.std.specs.Prelude.{ℕ, List, length, sum_by}
+use Rattle.std.specs.Prelude.{ℕ, List, length, map, sum_by}
 use Rattle.config.specs.declared.station.Station.{Station}
 use Rattle.config.specs.Stations.{part_length}
 use Rattle.layout.specs.Blocks.{data_length}
@@ -13,7 +13,10 @@ pub record PortOf : Type 0 where
 abbrev pub station_count : List PortOf → ℕ
 station_count ps = sum_by (λ p. length p.stations) ps
 
--- bytes of data body that the ports fill
+-- bytes of data body that the ports fill, port by port and together
+abbrev pub body_lengths : List PortOf → List ℕ
+body_lengths ps = map (λ p. data_length p.stations) ps
+
 abbrev pub body_length : List PortOf → ℕ
 body_length ps = sum_by (λ p. data_length p.stations) ps
 

@@ -9,6 +9,7 @@ use crate::request::Request;
 use crate::table::no_ports;
 use common::{Fault, IdCode, LONGEST_BODY, Port};
 use config::{Config, MOST_STATIONS};
+use fixed::FixedList;
 use layout::data_len;
 use wire::{Frame, Header};
 
@@ -62,6 +63,7 @@ impl Plan {
             id,
             rate,
             table: no_ports(),
+            lens: FixedList::new(0),
             stations: 0,
             body: 0,
             parts: 0,
@@ -111,9 +113,11 @@ impl Plan {
     {
         let number = self.table.len();
         // There is room, so the answer that there was is let go.
+        let len = data_len(&request.port.stations);
         self.table.push(request.port);
+        self.lens.push(len);
         self.stations += request.port.stations.len();
-        self.body += data_len(&request.port.stations);
+        self.body += len;
         self.parts += request.parts.len();
         // By `as`, which is itself proved to lose nothing, and is shorter than a proved `unwrap`.
         Port(number as u8)

@@ -1,5 +1,5 @@
 ghost use Rattle.std.specs.Prelude.{◌≡◌, ◌≤◌};
-ghost use Rattle.plan.specs.Ports.{body_length};
+ghost use Rattle.plan.specs.Ports.{body_length, body_lengths};
 ghost use Rattle.plan.specs.Views.{plan_of};
 
 use crate::plan::Plan;
@@ -18,6 +18,13 @@ impl Plan {
         ensures { result ≡ (plan_of self.now).rate }
     {
         self.rate
+    }
+
+    // The length of each port's body in a data frame, in the order of the ports.
+    pub fn body_lens(&self) -> &[usize]
+        ensures { result.now ≡ body_lengths (plan_of self.now).ports }
+    {
+        self.lens.as_slice()
     }
 
     // The length of a combined data frame's body.

@@ -1,11 +1,11 @@
-use Rattle.std.proofs.Common.{◌+◌, ◌-◌, ◌*◌, ◌≤◌, not, ◌∙◌, refl, arith, rules, tests}
+use Rattle.std.proofs.Common.{◌≡◌, ◌+◌, ◌-◌, ◌*◌, ◌≤◌, false, not, sym, ◌∙◌, refl, arith, rules, tests}
 use Rattle.std.proofs.lemmas.Iterator.{YieldsList-from_range}
 use Rattle.std.proofs.lemmas.Iterator.Search.{find_from_yields_List}
 use Rattle.slots.specs.Slots.{frames_of}
 use Rattle.engine.specs.Boxes.{upto}
 use Rattle.engine.specs.Closing.{complete}
 use Rattle.engine.specs.Views.{setting_of, box_of}
-use Rattle.engine.proofs.Fronts.{near, told-beyond, beyond-within}
+use Rattle.engine.proofs.Fronts.{near, told-beyond, beyond-stays, beyond-within}
 use Rattle.engine.proofs.engine.Engine.past_complete.Goals as goal
 
 pub returns-clause-value : goal.returns-clause-value
@@ -30,3 +30,10 @@ returns-clause-near c =
     let within = beyond-within (complete g (box_of s)) (k - f) f in
     let low : k ≤ 4000000001 * frames_of s.terms.rate = near (frames_of s.terms.rate) (s.latest + 100000) s.terms.rate.some (omega (arith, s.time)) in
     omega (arith, value, within, low, c.requires)
+
+pub returns-then-not-is_complete-clause-value : goal.returns-then-not-is_complete-clause-value
+returns-then-not-is_complete-clause-value c =
+    let s = c.args.self.now in
+    let t = complete (setting_of s) (box_of s) in
+    let waits : t c.args.from ≡ false = search rules in
+    sym (beyond-stays t (upto (setting_of s) (s.latest + 100000) - c.args.from) c.args.from waits)
