@@ -137,8 +137,9 @@ def mixed(rate, slots=40):
     load = Load(rate, 15, "small")
     pick = random.Random(1).randrange
     for slot in range(slots):
-        load.tick(load.stamp(slot) + pick(20_000) if slot != slots // 2 else load.reading + 60_000_000)
-        now = slot if slot < slots // 2 else slot + 60 * rate
+        leaps = slot >= slots * 3 // 4
+        now = slot + 59 * rate if leaps else slot
+        load.tick(load.stamp(now) + pick(20_000))
         for port in range(15):
             befalls = pick(12)
             data = load.data(now - 60 if befalls == 0 else now + 40 if befalls == 1 else now, port)
