@@ -1,0 +1,42 @@
+use capture::Record;
+use common::Port;
+
+// A call on a concentrator. A write takes the ticket first.
+#[derive(Clone, Copy)]
+pub enum Call<'a> {
+    Tick(u64),
+    Admit(Port, &'a [u8]),
+    Pull,
+    Write,
+}
+
+// The kinds of calls, in the order in which their times are shown.
+#[derive(Clone, Copy, PartialEq, Eq, Debug)]
+pub enum Kind {
+    Tick = 0,
+    Admit = 1,
+    Pull = 2,
+    Write = 3,
+}
+
+impl<'a> Call<'a> {
+    // The call that a record stands for: one letter for a tick with its reading, a pull or a write;
+    // and any other frame is admitted.
+    pub fn of(record: Record<'a>) -> Call<'a> {
+        match record.frame {
+            b"t" => Call::Tick(record.reading),
+            b"p" => Call::Pull,
+            b"w" => Call::Write,
+            frame => Call::Admit(record.port, frame),
+        }
+    }
+
+    pub fn kind(self) -> Kind {
+        match self {
+            Call::Tick(_) => Kind::Tick,
+            Call::Admit(..) => Kind::Admit,
+            Call::Pull => Kind::Pull,
+            Call::Write => Kind::Write,
+        }
+    }
+}

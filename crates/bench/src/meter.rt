@@ -1,0 +1,60 @@
+use crate::call::Kind;
+use std::io;
+use std::time::{Duration, Instant};
+
+// How many kinds of calls there are.
+const KINDS: usize = 4;
+
+// How many calls of each kind were made, and how long they took together.
+#[derive(Clone, Copy)]
+pub struct Meter {
+    kind: Kind,
+    since: Instant,
+    calls: [u64; KINDS],
+    spent: [Duration; KINDS],
+}
+
+impl Meter {
+    pub fn start(rt: &HostRuntime) -> io::Result<Meter> {
+        Ok(Meter {
+            kind: Kind::Tick,
+            since: Instant::now(rt)?,
+            calls: [0; KINDS],
+            spent: [Duration::ZERO; KINDS],
+        })
+    }
+
+    // Adds the time since the last change to the kind of the calls that were made in it.
+    pub fn stop(&mut self, rt: &HostRuntime) -> io::Result<()> {
+        let now = Instant::now(rt)?;
+        let at = self.kind as usize;
+        self.spent[at] = self.spent[at].saturating_add(now.duration_since(self.since));
+        self.since = now;
+        Ok(())
+    }
+
+    // Counts a call of the kind. The clock is read only where the kind changes.
+    pub fn count(&mut self, rt: &HostRuntime, kind: Kind) -> io::Result<()> {
+        if kind != self.kind {
+            self.stop(rt)?;
+            self.kind = kind;
+        }
+        let at = kind as usize;
+        self.calls[at] = self.calls[at].saturating_add(1);
+        Ok(())
+    }
+
+    // Prints a line for each kind: how many calls, and how many nanoseconds they took.
+    pub fn print(&self, rt: &HostRuntime) -> io::Result<()> {
+        for (kind, name) in [
+            (Kind::Tick, "tick"),
+            (Kind::Admit, "admit"),
+            (Kind::Pull, "pull"),
+            (Kind::Write, "write"),
+        ] {
+            let at = kind as usize;
+            println!(rt; "{name} {} {}", self.calls[at], self.spent[at].as_nanos())?;
+        }
+        Ok(())
+    }
+}
