@@ -45,13 +45,18 @@ fn step(register: u16, byte: u8) -> u16
     ((register & 0xff) << 8) ^ word(top)
 }
 
-// The check word of `bytes`.
+// The check word of `bytes`. Byte by byte, and four of them in each turn of the loop.
 pub fn check_word(bytes: &[u8]) -> u16
     ensures { result ≡ check_word_of bytes.now }
 {
-    bytes
-        .iter()
-        .fold(0xffff, |register, byte| step(register, *byte))
+    let mut register = 0xffff;
+    let mut rest = bytes;
+    while let Some(([a, b, c, d], behind)) = rest.split_first_chunk::<4>() {
+        register = step(step(step(step(register, *a), *b), *c), *d);
+        rest = behind;
+    }
+    rest.iter()
+        .fold(register, |register, byte| step(register, *byte))
 }
 
 // The worked example of the definition: the digits 1 to 9 have the check word 29B1h.
