@@ -1,5 +1,5 @@
 -- Runs of the concentrator follow the machine, and so keep the law.
-use Rattle.std.proofs.Common.{◌≡◌, ℕ, ◌++◌, List, None, sym, refl, ap, ◌∙◌, subst}
+use Rattle.std.proofs.Common.{◌≡◌, ℕ, ◌++◌, None, sym, refl, ap, ◌∙◌, subst}
 use Rattle.engine.specs.Boxes as E
 use Rattle.engine.specs.Calls.{open_setting}
 use Rattle.concentrator.specs.Wholes.{Whole, begins}

@@ -1,24 +1,15 @@
 -- The engine's combined frames are laid out port by port.
-use Rattle.std.proofs.Common.{◌≡◌, ℕ, suc, ◌+◌, ltb, List, [], ◌∷◌, ◌++◌, length, Some, None, Ok, Err, Option, Result, sym, refl, ap, ◌∙◌, append_assoc, append-nil, add-one, arith, length-append}
+use Rattle.std.proofs.Common.{◌≡◌, ℕ, suc, ◌+◌, List, [], ◌∷◌, ◌++◌, length, sym, refl, ap, ◌∙◌, append_assoc, append-nil, add-one, arith, length-append}
 use lib.Seq.{get_or-append_seam}
-use Rattle.std.specs.Option.{option_map}
-use Rattle.common.specs.declared.fault.Fault as the_fault
 use Rattle.fields.specs.Fields.{bytes16}
 use Rattle.crc.specs.CheckWord.{check_word_of}
-use Rattle.wire.specs.declared.kind.FrameType.TheVariants.{Data}
-use Rattle.wire.specs.Headers.{header_bytes}
-use Rattle.wire.specs.Frames.{header_for, sealed}
-use Rattle.layout.specs.Blocks.{data_length}
-use Rattle.layout.proofs.Lengths.{length_blocks}
-use Rattle.plan.specs.Ports.{PortOf, body_length}
-use Rattle.sample.specs.Samples.{SampleOf}
-use Rattle.sample.proofs.Fits.{passed, sample_fits}
+use Rattle.wire.specs.Frames.{sealed}
+use Rattle.plan.specs.Ports.{PortOf}
 use Rattle.combined.specs.Blocks.{port_at}
-use Rattle.combined.specs.Frames.{block_bytes, body_from, quality_of, slot_tag, slot_frame}
+use Rattle.combined.specs.Frames.{block_bytes, body_from, slot_frame}
 use Rattle.engine.specs.Boxes as E
-use Rattle.engine.specs.Calls as K
 use Rattle.laws.specs.Setting.{Contents}
-use Rattle.laws.specs.Bytes.{Layout, body, laid_out}
+use Rattle.laws.specs.Bytes.{body, laid_out}
 use Rattle.runs.specs.Models.{blocks_of}
 use Rattle.runs.specs.Layouts.{head, layout}
 

@@ -2,7 +2,7 @@
 use Rattle.std.proofs.Common.{◌≡◌, ℕ, ◌+◌, Bool, true, false, cond, eqb, ltb, List, [], ◌∷◌, length, Some, None, Ok, Err, IsErr, Option, Result, sym, refl, ap, ◌∙◌, arith}
 use Rattle.common.specs.declared.fault.Fault.{Fault}
 use Rattle.common.specs.declared.fault.Fault.TheVariants as fault
-use Rattle.feed.specs.Feeds.{Behaviour, Waiting, Tick, after}
+use Rattle.feed.specs.Feeds.{Waiting}
 use Rattle.sample.specs.Samples.{SampleOf}
 use Rattle.combined.specs.Frames.{slot_length}
 use Rattle.engine.specs.Boxes as E

@@ -1,4 +1,4 @@
-use Rattle.std.proofs.Common.{rules, ◌≡◌, ℕ, ◌+◌, ◌≤◌, Option, sym, refl, subst}
+use Rattle.std.proofs.Common.{rules, ℕ, ◌+◌, ◌≤◌, Option, sym, refl, subst}
 use Rattle.plan.specs.Views.{plan_of}
 use Rattle.concentrator.specs.Wholes.{Whole}
 use Rattle.laws.specs.Journal.{start}

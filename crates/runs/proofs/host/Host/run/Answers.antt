@@ -1,6 +1,5 @@
-use Rattle.std.proofs.Common.{◌≡◌, ℕ, ◌+◌, List, get_or, length, take, rules, sym, ◌∙◌, ap, subst}
+use Rattle.std.proofs.Common.{◌≡◌, ◌+◌, List, get_or, take, rules, sym, ◌∙◌, ap, subst}
 use Rattle.std.proofs.lemmas.List.{take_all}
-use Rattle.laws.specs.Journal.{Journal}
 use Rattle.laws.specs.Machine.{onto}
 use Rattle.concentrator.specs.Wholes.{Whole}
 use Rattle.runs.specs.declared.call.Call.{Call}
@@ -8,8 +7,7 @@ use Rattle.runs.specs.declared.call.Call.TheVariants.{Tick}
 use Rattle.runs.specs.Entries.{EntryOf, all_due, left_by}
 use Rattle.runs.specs.Events.{events_of}
 use Rattle.runs.specs.Given.{requests_of, entries_of, standing}
-use Rattle.runs.specs.Kept.{Kept}
-use Rattle.runs.specs.Standing.{Opening, Reached}
+use Rattle.runs.specs.Standing.{Reached}
 use Rattle.runs.proofs.Followed.{kept_by}
 use Rattle.runs.proofs.Listed.{left-next, answers-next, runs-on, left-by, stopped}
 use Rattle.runs.proofs.host.Host.run.Goals as goal
