@@ -93,6 +93,12 @@ OUTCOMES = (
 )
 
 
+ORDER = ("refused", "refused by a mismatch", "refused by a name", "the prover gave up", "accepted", "bad edit", "not tried")
+
+# What is said where a proof is a term that no longer fits, and not where a fact does not hold.
+MISMATCH = re.compile(r"proofs/.*(the two types (first )?differ|the two indices|expected type `|no occurrence of the path|are not equal|stopped at its own limit)")
+
+
 def try_crate(crate, room, bugs):
     ran = subprocess.run(["rt", "must-fail", crate], cwd=room, stdout=subprocess.PIPE, stderr=subprocess.STDOUT, text=True, errors="replace")
     by_name = {bug.name: bug for bug in bugs}
@@ -107,6 +113,8 @@ def try_crate(crate, room, bugs):
         elif bug and bug.outcome == "bad edit":
             bug.said += "\n" + line
     for bug in by_name.values():
+        if bug.outcome == "refused" and MISMATCH.search(bug.said):
+            bug.outcome = "refused by a mismatch"
         # a bug that the compiler refuses did not reach the prover, and need not
         found = re.search(r"error\[(linear-value-let-go)\]: ([^\n]*)", bug.said)
         if bug.outcome == "bad edit" and found:
@@ -153,10 +161,13 @@ def where(bug):
 
 def plainer(words):
     """Says what was not proved in fewer words: the need in brackets names the clause."""
-    words = re.sub(r"^`returns[\w'-]*`: ", "", words)
-    words = re.sub(r"it is not proved that what the function ensures holds when it returns \((`[^`]*`)\).*", r"not proved when it returns (\1)", words)
-    words = re.sub(r"`search` found no proof \((`[^`]*`)\).*", r"not proved (\1)", words)
-    words = re.sub(r"(\(`[^`]*`\)); .*", r"\1", words)
+    words = words.replace("list the missing equation with its arguments, or rewrite by `rw` or `simp`", "`cc` did not join the two sides")
+    words = re.sub(r"^(`[\w'-]+`): (.*)", r"\2 (\1)", words)
+    words = re.sub(r"it is not proved that what the function ensures holds when it returns \((`[^`]*`)\)", r"not proved when it returns (\1)", words)
+    words = re.sub(r"`search` found no proof \((`[^`]*`)\)", r"not proved (\1)", words)
+    # (a first error is told up to its 160th byte)
+    words = re.sub(r"(\(`[^`]*`\)); (the f.*|th?$)", r"\1, false at values that are allowed there", words)
+    words = re.sub(r"(\(`[^`]*`\)); (`s.*|`$)", r"\1, where the search gave up", words)
     return words
 
 
@@ -194,13 +205,13 @@ def cell(text):
 def table(bugs):
     rows = ["| Bug | What is planted | In place of | Kind | Outcome | Refused at |", "|---|---|---|---|---|---|"]
     for bug in bugs:
-        at = where(bug) if bug.outcome in ("refused", "refused by a name", "the prover gave up") else shortened(bug.said, 160)
+        at = where(bug) if bug.outcome.startswith("refused") or bug.outcome == "the prover gave up" else shortened(bug.said, 160)
         rows.append("| " + " | ".join(cell(it) for it in (bug.key, bug.words, f"{code(bug.file)}: {change(bug)}", bug.kind, bug.outcome, at)) + " |")
     return rows
 
 
 def counted(bugs):
-    told = [f"{sum(bug.outcome == outcome for bug in bugs)} {outcome}" for outcome in dict.fromkeys([*(it for _, it in OUTCOMES)]) if any(bug.outcome == outcome for bug in bugs)]
+    told = [f"{sum(bug.outcome == outcome for bug in bugs)} {outcome}" for outcome in sorted({bug.outcome for bug in bugs}, key=ORDER.index) if any(bug.outcome == outcome for bug in bugs)]
     return f"{len(bugs)} bugs of {len({bug.kind for bug in bugs})} kinds: {', '.join(told)}."
 
 
@@ -210,7 +221,7 @@ def page(subjects):
         lines = [it.read().rstrip("\n"), ""]
     lines += ["## How many", "", f"All in all: {counted(every)}", "", "| Subject | Bugs | Kinds | Refused |", "|---|---|---|---|"]
     for name, bugs in subjects.items():
-        lines.append(f"| {name} | {len(bugs)} | {len({bug.kind for bug in bugs})} | {sum(bug.outcome == 'refused' for bug in bugs)} |")
+        lines.append(f"| {name} | {len(bugs)} | {len({bug.kind for bug in bugs})} | {sum(bug.outcome.startswith('refused') for bug in bugs)} |")
     seen = {}
     for name, bugs in subjects.items():
         own = [bug for bug in bugs if bug not in seen]
@@ -242,7 +253,7 @@ def main(names):
     else:
         with open(f"{ROOT}/docs/PLANTED.md", "w", encoding="utf-8") as it:
             it.write(page(subjects))
-    return 0 if all(bug.outcome == "refused" for bug in tried) else 1
+    return 0 if all(bug.outcome.startswith("refused") for bug in tried) else 1
 
 
 if __name__ == "__main__":
