@@ -96,7 +96,7 @@ OUTCOMES = (
 ORDER = ("refused", "refused by a mismatch", "refused by a name", "the prover gave up", "accepted", "bad edit", "not tried")
 
 # What is said where a proof is a term that no longer fits, and not where a fact does not hold.
-MISMATCH = re.compile(r"proofs/.*(the two types (first )?differ|the two indices|expected type `|no occurrence of the path|are not equal|stopped at its own limit)")
+MISMATCH = re.compile(r"proofs/.*(the two types (first )?differ|the two indices|expected type `|no occurrence of the path|are not equal)")
 
 
 def try_crate(crate, room, bugs):
@@ -147,6 +147,8 @@ def where(bug):
     if bug.said.startswith("the compiler"):
         return shortened(bug.said, 160)
     found = PLACE.search(bug.said)
+    if found and found[4].startswith("note:"):
+        return "no line of an error was told first, but a note on a proof that stands"
     if not found:
         return shortened(bug.said, 160)
     path, number, words = found[1], int(found[2]), found[4]
@@ -162,6 +164,7 @@ def where(bug):
 def plainer(words):
     """Says what was not proved in fewer words: the need in brackets names the clause."""
     words = words.replace("list the missing equation with its arguments, or rewrite by `rw` or `simp`", "`cc` did not join the two sides")
+    words = re.sub(r"`(\w+)` stopped at its own limit.*", r"`\1` came to its own limit and found no proof", words)
     words = re.sub(r"^(`[\w'-]+`): (.*)", r"\2 (\1)", words)
     words = re.sub(r"it is not proved that what the function ensures holds when it returns \((`[^`]*`)\)", r"not proved when it returns (\1)", words)
     words = re.sub(r"`search` found no proof \((`[^`]*`)\)", r"not proved (\1)", words)
