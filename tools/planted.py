@@ -98,6 +98,9 @@ ORDER = ("refused", "refused by a mismatch", "refused by a name", "the prover ga
 # What is said where a proof is a term that no longer fits, and not where a fact does not hold.
 MISMATCH = re.compile(r"proofs/.*(the two types (first )?differ|the two indices|expected type `|no occurrence of the path|are not equal)")
 
+# What is said, up to its 160th character, where a proof names what is gone.
+NAME = re.compile(r"proofs/.*: (record `Rattle|module `Rattle)")
+
 
 def try_crate(crate, room, bugs):
     ran = subprocess.run(["rt", "must-fail", crate], cwd=room, stdout=subprocess.PIPE, stderr=subprocess.STDOUT, text=True, errors="replace")
@@ -115,6 +118,8 @@ def try_crate(crate, room, bugs):
     for bug in by_name.values():
         if bug.outcome == "refused" and MISMATCH.search(bug.said):
             bug.outcome = "refused by a mismatch"
+        if bug.outcome == "refused" and NAME.search(bug.said):
+            bug.outcome = "refused by a name"
         # a bug that the compiler refuses did not reach the prover, and need not
         found = re.search(r"error\[(linear-value-let-go)\]: ([^\n]*)", bug.said)
         if bug.outcome == "bad edit" and found:
