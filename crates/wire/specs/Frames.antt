@@ -56,6 +56,11 @@ abbrev pub answered : Result Frame Fault → Result Told Fault
 answered (Ok f) = Ok (seen f)
 answered (Err e) = Err e
 
+-- the same of a frame behind its header
+abbrev pub answered_behind : Result (Header × Frame) Fault → Result Told Fault
+answered_behind (Ok x) = Ok (seen x.1)
+answered_behind (Err e) = Err e
+
 -- the body of a data frame
 abbrev pub data_body_of : Result Told Fault → Result (List ℕ) Fault
 data_body_of (Ok (of_data b)) = Ok b
