@@ -5,30 +5,39 @@ use std::time::{Duration, Instant};
 // How many kinds of calls there are.
 const KINDS: usize = 4;
 
-// How many calls of each kind were made, and how long they took together.
+// How many calls of a kind were made, and how long they took together.
+#[derive(Clone, Copy)]
+struct Cost {
+    calls: u64,
+    spent: Duration,
+}
+
+// What the calls of each kind cost.
 #[derive(Clone, Copy)]
 pub struct Meter {
     kind: Kind,
     since: Instant,
-    calls: [u64; KINDS],
-    spent: [Duration; KINDS],
+    costs: [Cost; KINDS],
 }
 
 impl Meter {
     pub fn start(rt: &HostRuntime) -> io::Result<Meter> {
+        let none = Cost {
+            calls: 0,
+            spent: Duration::ZERO,
+        };
         Ok(Meter {
             kind: Kind::Tick,
             since: Instant::now(rt)?,
-            calls: [0; KINDS],
-            spent: [Duration::ZERO; KINDS],
+            costs: [none; KINDS],
         })
     }
 
     // Adds the time since the last change to the kind of the calls that were made in it.
     pub fn stop(&mut self, rt: &HostRuntime) -> io::Result<()> {
         let now = Instant::now(rt)?;
-        let at = self.kind as usize;
-        self.spent[at] = self.spent[at].saturating_add(now.duration_since(self.since));
+        let cost = &mut self.costs[self.kind as usize];
+        cost.spent = cost.spent.saturating_add(now.duration_since(self.since));
         self.since = now;
         Ok(())
     }
@@ -39,8 +48,8 @@ impl Meter {
             self.stop(rt)?;
             self.kind = kind;
         }
-        let at = kind as usize;
-        self.calls[at] = self.calls[at].saturating_add(1);
+        let cost = &mut self.costs[kind as usize];
+        cost.calls = cost.calls.saturating_add(1);
         Ok(())
     }
 
@@ -52,8 +61,8 @@ impl Meter {
             (Kind::Pull, "pull"),
             (Kind::Write, "write"),
         ] {
-            let at = kind as usize;
-            println!(rt; "{name} {} {}", self.calls[at], self.spent[at].as_nanos())?;
+            let cost = self.costs[kind as usize];
+            println!(rt; "{name} {} {}", cost.calls, cost.spent.as_nanos())?;
         }
         Ok(())
     }

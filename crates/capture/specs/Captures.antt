@@ -9,6 +9,7 @@ use Rattle.capture.specs.Records.{Entry, entry_of, leading}
 abbrev pub to_come : Capture → List Entry
 to_come c = leading (length c.rest.now) c.rest.now
 
+-- what opening a capture answers, told by its records: all of them still to come, or the refusal
 abbrev pub told : Result Capture Fault → Result (List Entry) Fault
 told (Ok c) = Ok (to_come c)
 told (Err e) = Err e

@@ -13,6 +13,7 @@ pub record Entry : Type 0 where
   pub port : ℕ
   pub frame : List ℕ
 
+-- what a record with a borrowed frame stands for: its reading, its line, and the bytes themselves
 abbrev pub entry_of : Record → Entry
 entry_of r = record { reading = r.reading; port = r.port.0; frame = r.frame.now }
 
@@ -20,9 +21,11 @@ entry_of r = record { reading = r.reading; port = r.port.0; frame = r.frame.now 
 abbrev pub entry_at : List ℕ → Entry
 entry_at bs = record { reading = be64 bs 0; port = be8 bs 8; frame = take (be16 bs 9) (drop 11 bs) }
 
+-- how many bytes the first record takes, by the length that it tells
 abbrev pub size_at : List ℕ → ℕ
 size_at bs = 11 + be16 bs 9
 
+-- the bytes behind the first record
 abbrev pub behind : List ℕ → List ℕ
 behind bs = drop (be16 bs 9) (drop 11 bs)
 
@@ -39,13 +42,16 @@ sound_at low bs = nat_le 11 (length bs) && (limited low (be64 bs 0) (be8 bs 8) (
 abbrev pub frame_of : ℕ → List ℕ → Option (List ℕ × List ℕ)
 frame_of n bs = cond (nat_le (11 + n) (length bs)) (Some (take n (drop 11 bs), drop n (drop 11 bs))) None
 
+-- a frame and the bytes behind it, both borrowed, told by the bytes themselves; or none
 abbrev pub parts_of : Option (Bor (List ℕ) × Bor (List ℕ)) → Option (List ℕ × List ℕ)
 parts_of None = None
 parts_of (Some p) = Some (p.0.now, p.1.now)
 
+-- the first record and the bytes behind it, if it is whole, and sound behind one with the reading low
 abbrev pub first_record : ℕ → List ℕ → Option (Entry × List ℕ)
 first_record low bs = cond (sound_at low bs) (Some (entry_at bs, behind bs)) None
 
+-- a record and the bytes behind it, both borrowed, told by what they hold; or none
 abbrev pub split_of : Option (Record × Bor (List ℕ)) → Option (Entry × List ℕ)
 split_of None = None
 split_of (Some p) = Some (entry_of p.0, p.1.now)
@@ -68,9 +74,11 @@ entries bs = cond (sound_behind (length bs) 0 bs) (Ok (leading (length bs) bs)) 
 abbrev pub header : List ℕ
 header = codes "PHC" ++ bytes16 1
 
+-- the bytes behind the header, if a header begins them
 abbrev pub headless : List ℕ → Option (List ℕ)
 headless bs = cond (bytes_eq (take 5 bs) header) (Some (drop 5 bs)) None
 
+-- the records of what stands behind a header; without a header it is no sound capture
 abbrev pub entries_of : Option (List ℕ) → Result (List Entry) Fault
 entries_of None = Err Unsound
 entries_of (Some bs) = entries bs

@@ -9,6 +9,7 @@ use Rattle.stacked.specs.Stackings.{meaning_of as meaning_under}
 use Rattle.choice.specs.declared.any_feed.AnyFeed.{AnyFeed}
 use Rattle.choice.specs.declared.any_feed.AnyFeed.TheVariants.{Silent, Recorded, Joined, Shifted, Stacked}
 
+-- what a feed means that was chosen among five kinds: what that kind of feed means by itself
 abbrev pub meaning_by : AnyFeed → Meaning
 meaning_by (Silent f) = silent
 meaning_by (Recorded f) = meaning_of f

@@ -11,6 +11,7 @@ use Rattle.engine.specs.States.{State}
 use Rattle.engine.specs.Views.{state_of}
 use Rattle.concentrator.specs.declared.concentrator.Concentrator.{Concentrator}
 
+-- all that the calls depend on: why it is shut, if it is, what never changes, when slots close, what changes, and what the feed gives from here on
 pub record Whole : Type 0 where
   pub shut : Option Fault
   pub setting : Setting

@@ -17,6 +17,7 @@ Stations = FixedList Station 32
 abbrev pub listed : Stations → List Station
 listed s = items_of s
 
+-- what the reading of station parts answers, told by the stations in a list; or the refusal
 abbrev pub listed_by : Result Stations Fault → Result (List Station) Fault
 listed_by (Ok s) = Ok (listed s)
 listed_by (Err e) = Err e
@@ -27,9 +28,11 @@ pub record Says : Type 0 where
   pub stations : List Station
   pub rate : ℕ
 
+-- what a configuration says that was read
 abbrev pub says : Config → Says
 says c = record { base = c.time_base; stations = listed c.stations; rate = c.rate }
 
+-- what the reading of a configuration answers, told by what it says; or the refusal
 abbrev pub says_by : Result Config Fault → Result Says Fault
 says_by (Ok c) = Ok (says c)
 says_by (Err e) = Err e
@@ -38,6 +41,7 @@ says_by (Err e) = Err e
 abbrev pub parts_of : List ℕ → List ℕ
 parts_of body = take (length body - 8) (drop 6 body)
 
+-- what a body with this time base and rate says once its station parts are read, or the refusal at which these stop
 abbrev pub saying : ℕ → ℕ → Result (List Station) Fault → Result Says Fault
 saying base rate (Ok ss) = Ok (record { base = base; stations = ss; rate = rate })
 saying base rate (Err e) = Err e
@@ -46,6 +50,7 @@ saying base rate (Err e) = Err e
 abbrev pub past_limits : ℕ → ℕ → ℕ → Bool
 past_limits base count most = nat_lt base 1000 || (nat_lt count 1 || nat_lt (min most 32) count)
 
+-- what a body says that may have so many stations at most, or the refusal of the first thing that is wrong in it
 abbrev pub configured : List ℕ → ℕ → Result Says Fault
 configured body most =
     cond (nat_lt (length body) 8) (Err (fault.StationLength 0))

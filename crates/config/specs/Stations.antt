@@ -29,6 +29,7 @@ judged s k n =
 abbrev pub station_at : List ℕ → ℕ → Result Station Fault
 station_at bs k = cond (nat_le 26 (length bs)) (judged (shape_at bs) k (length bs)) (Err (fault.StationLength k))
 
+-- some stations and behind them those that a reading answers, or the refusal of that reading
 abbrev pub before : List Station → Result (List Station) Fault → Result (List Station) Fault
 before ss (Ok ts) = Ok (ss ++ ts)
 before ss (Err e) = Err e
@@ -37,6 +38,7 @@ before ss (Err e) = Err e
 abbrev pub ended : List ℕ → ℕ → Result (List Station) Fault
 ended bs k = cond (length bs == 0) (Ok []) (Err (fault.StationLength k))
 
+-- a station and then those read behind it, or the refusal at which the reading stops
 abbrev pub onward : Result Station Fault → (Station → Result (List Station) Fault) → Result (List Station) Fault
 onward (Ok s) f = before (s ∷ []) (f s)
 onward (Err e) f = Err e

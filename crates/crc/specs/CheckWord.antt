@@ -5,6 +5,7 @@ use Rattle.std.specs.Prelude.{◌≡◌, ℕ, ◌*◌, ◌/◌, ◌%◌, List, c
 unfoldable pub shift : ℕ → ℕ
 shift c = bit_xor (c * 2 % 65536) (c / 32768 % 2 * 0x1021)
 
+-- the register after one shift for each bit of a byte
 abbrev pub eight_shifts : ℕ → ℕ
 eight_shifts c = shift (shift (shift (shift (shift (shift (shift (shift c)))))))
 
@@ -12,6 +13,7 @@ eight_shifts c = shift (shift (shift (shift (shift (shift (shift (shift c)))))))
 unfoldable pub taken : ℕ → ℕ → ℕ
 taken c b = eight_shifts (bit_xor c (b * 256))
 
+-- the check word over some bytes, taken in from the first to the last
 abbrev pub check_word_of : List ℕ → ℕ
 check_word_of bs = fold taken 0xffff bs
 

@@ -44,5 +44,6 @@ settled closing g s = with_front s (past_complete_of g s (past_ripe_of closing g
 abbrev pub ripened_by : Closing → Setting → Box → ℕ → Bool → ℕ
 ripened_by closing g s n first = cond (first && ripe closing g s n) (max s.front (n + 1)) s.front
 
+-- after a frame for slot n: past that slot if its first frame made it ripe, and then past each complete one
 abbrev pub settled_by : Closing → Setting → Box → ℕ → Bool → Box
 settled_by closing g s n first = with_front s (past_complete_of g s (ripened_by closing g s n first))

@@ -14,6 +14,7 @@ short buffer = nat_lt (length buffer) 1040
 abbrev pub tick_said : List ℕ → Result Unit Fault
 tick_said scratch = cond (short scratch) (Err Buffer) (Ok tt)
 
+-- what a feed means after a tick with a scratch buffer: what comes once the tick is done, or what it meant if the buffer is short
 abbrev pub tick_left : Behaviour → ℕ → List ℕ → Behaviour
 tick_left m reading scratch = cond (short scratch) m (after m (Tick reading))
 
@@ -36,8 +37,10 @@ first_over (w ∷ ws) buffer = over w.bytes buffer
 abbrev pub next_said : List Waiting → List ℕ → Result Taken Fault
 next_said ws buffer = cond (short buffer) (Err Buffer) (first_taken ws)
 
+-- what a next leaves in its buffer: the first frame at its front; refused, it is as it was
 abbrev pub next_buffer : List Waiting → List ℕ → List ℕ
 next_buffer ws buffer = cond (short buffer) buffer (first_over ws buffer)
 
+-- what a feed means after a next: what comes once the first frame is taken; refused, what it meant
 abbrev pub next_left : Behaviour → List ℕ → Behaviour
 next_left m buffer = cond (short buffer) m (pick (m []) (after m Next) m)

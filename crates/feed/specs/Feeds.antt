@@ -36,6 +36,7 @@ pub record Carried (w : Waiting) : Type 0 where
   pub some : 1 ≤ length w.bytes
   pub few : length w.bytes ≤ 1040
 
+-- each frame of a list is one that a feed can carry
 abbrev pub AllCarried : List Waiting → Type 0
 AllCarried [] = Unit {0}
 AllCarried (w ∷ ws) = Carried w × AllCarried ws

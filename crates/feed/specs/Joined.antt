@@ -74,10 +74,12 @@ carried a b la lb (Next ∷ ops) =
       | x ∷ xs ↦ carried (after a Next) b (after-lawful Next la) lb ops
     ]
 
+-- two lawful feeds joined are a lawful feed
 pub joined-lawful : (a b : Behaviour) → Lawful a → Lawful b → Lawful (joined a b)
 joined-lawful a b la lb =
     record { ticked = ticked a b la lb; nexted = nexted a b la lb; idle = idle a b la lb; carried = carried a b la lb }
 
+-- what two feeds mean once they are joined
 abbrev pub both : Meaning → Meaning → Meaning
 both a b =
     record { waits = joined a.waits b.waits; lawful = joined-lawful a.waits b.waits a.lawful b.lawful }

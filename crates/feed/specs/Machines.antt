@@ -8,6 +8,7 @@ abbrev pub run : {S : Type 0} → (S → Op → S) → S → List Op → S
 run step s [] = s
 run step s (o ∷ ops) = run step (step s o) ops
 
+-- what waits at a machine that is in the state s, after each sequence of operations from there
 abbrev pub behaviour : {S : Type 0} → (S → Op → S) → (S → List Waiting) → S → Behaviour
 behaviour step waits s = λ ops. waits (run step s ops)
 
@@ -36,5 +37,6 @@ module _ {S : Type 0} (step : S → Op → S) (waits : S → List Waiting) (Reac
   carried s h [] = f.carried s h
   carried s h (o ∷ ops) = carried (step s o) (f.stays s o h) ops
 
+  -- a machine that keeps its facts behaves as a feed may
   pub machine_lawful : (s : S) → Reached s → Lawful (behaviour step waits s)
   machine_lawful s h = record { ticked = ticked s h; nexted = nexted s h; idle = idle s h; carried = carried s h }

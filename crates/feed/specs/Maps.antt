@@ -8,6 +8,7 @@ pub record Map : Type 0 where
   pub on : ℕ → List ℕ → List ℕ
   pub keeps : (port : ℕ) (bytes : List ℕ) → length (on port bytes) ≡ length bytes
 
+-- a waiting frame once a layer has changed it, still of its line
 abbrev pub changed : Map → Waiting → Waiting
 changed f w = record { port = w.port; bytes = f.on w.port w.bytes }
 
@@ -49,5 +50,6 @@ mapped-lawful f m l =
       carried = λ ops. carried-map f (m ops) (l.carried ops);
     }
 
+-- what a feed means under a layer
 abbrev pub through : Map → Meaning → Meaning
 through f m = record { waits = mapped f m.waits; lawful = mapped-lawful f m.waits m.lawful }

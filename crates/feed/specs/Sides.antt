@@ -18,5 +18,6 @@ pub record Sides (a b : Behaviour) (ops : List Op) : Type 0 where
   pub first_ticks : ticks_of first ≡ ticks_of ops
   pub second_ticks : ticks_of second ≡ ticks_of ops
 
+-- whatever is done to two joined feeds, what waits is what waits at each of them, and each has had every tick
 abbrev pub BothWait : Type 0
 BothWait = (a b : Behaviour) (ops : List Op) → Sides a b ops

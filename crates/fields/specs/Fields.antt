@@ -7,15 +7,19 @@ use Rattle.common.specs.declared.fault.Fault.TheVariants.{Buffer}
 abbrev pub be8 : List ℕ → ℕ → ℕ
 be8 xs i = slice_index xs i
 
+-- the number that stands in the 2 bytes from i on, the highest byte first
 abbrev pub be16 : List ℕ → ℕ → ℕ
 be16 xs i = be8 xs i * 256 + be8 xs (i + 1)
 
+-- the number that stands in the 3 bytes from i on, the highest byte first
 abbrev pub be24 : List ℕ → ℕ → ℕ
 be24 xs i = be8 xs i * 65536 + be16 xs (i + 1)
 
+-- the number that stands in the 4 bytes from i on, the highest byte first
 abbrev pub be32 : List ℕ → ℕ → ℕ
 be32 xs i = be16 xs i * 65536 + be16 xs (i + 2)
 
+-- the number that stands in the 8 bytes from i on, the highest byte first
 abbrev pub be64 : List ℕ → ℕ → ℕ
 be64 xs i = be32 xs i * 4294967296 + be32 xs (i + 4)
 
@@ -31,6 +35,7 @@ field xs i n v = cond (fits xs i n) (Some v) None
 abbrev pub bytes16 : ℕ → List ℕ
 bytes16 v = v / 256 % 256 ∷ v % 256 ∷ []
 
+-- the low 32 bits of a number as 4 bytes, the highest byte first
 abbrev pub bytes32 : ℕ → List ℕ
 bytes32 v = v / 16777216 % 256 ∷ v / 65536 % 256 ∷ v / 256 % 256 ∷ v % 256 ∷ []
 
@@ -46,5 +51,6 @@ over bs xs = bs ++ drop (length bs) xs
 abbrev pub wrote : List ℕ → ℕ → List ℕ → Result Unit Fault
 wrote xs i bs = cond (fits xs i (length bs)) (Ok tt) (Err Buffer)
 
+-- what a write of bs at i leaves: the bytes in their place, or the buffer as it was if it is too short
 abbrev pub written : List ℕ → ℕ → List ℕ → List ℕ
 written xs i bs = cond (fits xs i (length bs)) (put xs i bs) xs

@@ -14,6 +14,7 @@ pub record Orderly (g : Setting) (K : Journal) (n : ℕ) (x : List ℕ) : Type 0
   pub closed : Closed g K n
   pub bytes : x ≡ frame_at g K n
 
+-- order: each write of a run gives the next slot, closed and with its combined frame, no closed slot changes, and none from the first on is open past its stamp and the bound
 pub record Order (g : Setting) : Type 0 where
   -- each write of a run is so
   pub orderly : (B : Behaviour) (J : Journal) → Right g B J → (K : Journal) (len n : ℕ) (x : List ℕ) → K ▹ Wrote len n x ≼ J → Orderly g K n x
@@ -24,6 +25,7 @@ pub record Order (g : Setting) : Type 0 where
   pub bound : (J : Journal) (n : ℕ) → g.first ≤ n → g.stamp n + g.bound ≤ latest g J → Closed g J n
 
 -- ---- account
+-- account: no frame is lost or invented, a tick takes none away, and what counts told is the account of the run
 pub record Account (g : Setting) : Type 0 where
   -- no frame is lost or invented: those admitted, those that waited at the opening and those that ticks added are those accepted, those refused and those that wait now
   pub sums : (B : Behaviour) → Lawful B → (J : Journal) → Right g B J → admitted J + length (B []) + added g B J ≡ tally J 0 + refused J + length (B (ops g J))
@@ -75,6 +77,7 @@ pub record Runs (g : Setting) : Type 0 where
   pub agreement : Agreement g
   pub prompt : Prompt g
 
+-- the machine's journals are the right ones and no others, and its feed and its front are as the journal says
 pub record Keeps (g : Setting) : Type 0 where
   -- the machine answers any calls as is due, one by one and from a list
   pub right : (B : Behaviour) (cs : Past Call) → Right g B (journal g B cs)

@@ -19,6 +19,7 @@ blank = replicate 40024 0
 unfoldable pub begun : ℕ → List Record → State
 begun id rs = start id (unwrap_or (first_rate rs) 0) blank
 
+-- the add of a line's first configuration; a line without one adds nothing
 abbrev pub adds_of : Option Record → List Call
 adds_of (Some r) = adding r.frame.now ∷ []
 adds_of None = []
@@ -32,6 +33,7 @@ unfoldable pub after_lines : ℕ → List Record → ℕ → State
 after_lines id rs zero = begun id rs
 after_lines id rs (suc k) = after_line (after_lines id rs k) (first_config rs k)
 
+-- what an add makes of its line: it fills the port with this number, or its configuration was refused
 abbrev pub answered : Result ℕ Fault → Outcome
 answered (Ok n) = outcome.Filled (record { 0 = n })
 answered (Err e) = outcome.Refused e
@@ -47,6 +49,7 @@ unfoldable pub outcomes : ℕ → List Record → ℕ → List Outcome
 outcomes id rs zero = []
 outcomes id rs (suc k) = outcomes id rs k ++ outcome_of (after_lines id rs k) (first_config rs k) (is_used rs k) ∷ []
 
+-- the frame at the buffer's front, if a publish answered how long it is, or else the refusal
 abbrev pub front_by : Result ℕ Fault → List ℕ → Result (List ℕ) Fault
 front_by (Ok n) buffer = Ok (take n buffer)
 front_by (Err e) buffer = Err e
@@ -55,6 +58,7 @@ front_by (Err e) buffer = Err e
 unfoldable pub published : State → ℕ → Result (List ℕ) Fault
 published s reading = front_by (publishes s.plan reading (length s.buffer)) (after_call s (publishing reading)).buffer
 
+-- what the code answers, with the published frame's bytes as a list
 abbrev pub bytes_by : Result (Vec ℕ Global) Fault → Result (List ℕ) Fault
 bytes_by (Ok v) = Ok v.items
 bytes_by (Err e) = Err e

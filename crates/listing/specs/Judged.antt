@@ -5,6 +5,7 @@ use Rattle.wire.specs.declared.header.Header.{Header}
 use Rattle.wire.specs.Frames.{Told, classified}
 use Rattle.wire.specs.Headers.{header_of}
 
+-- the header, if the frame was told apart, or else the refusal
 abbrev pub headed : Result Told Fault → Result Header Fault → Result Header Fault
 headed (Ok t) h = h
 headed (Err e) h = Err e

@@ -7,6 +7,7 @@ use Rattle.fields.specs.Fields.{be16, field}
 use Rattle.wire.specs.Frames.{Told, of_data, of_config2, of_other, classified}
 use Rattle.capture.specs.declared.record.Record.{Record}
 
+-- a frame was told apart, as a configuration 2
 abbrev pub is_config2 : Result Told Fault → Bool
 is_config2 (Ok (of_data b)) = false
 is_config2 (Ok (of_config2 b)) = true
@@ -38,6 +39,7 @@ unfoldable pub lowest_config : List Record → ℕ → Option Record
 lowest_config rs zero = None
 lowest_config rs (suc k) = option_or (lowest_config rs k) (first_config rs k)
 
+-- the rate that the frame of a record tells, if there is a record
 abbrev pub rate_by : Option Record → Option ℕ
 rate_by (Some r) = rate_in r.frame.now
 rate_by None = None
@@ -46,6 +48,7 @@ rate_by None = None
 abbrev pub first_rate : List Record → Option ℕ
 first_rate rs = rate_by (lowest_config rs 16)
 
+-- the reading at which a record came, and 0 if there is none
 abbrev pub reading_by : Option Record → ℕ
 reading_by (Some r) = r.reading
 reading_by None = 0

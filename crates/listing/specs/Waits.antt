@@ -15,10 +15,12 @@ names_wait word = bytes_eq word (codes "--wait") || bytes_eq word (codes "--rela
 pub record IsAbsolute (longest : ℕ) (p : Absolute) : Type 0 where
   pub waits : p.wait ≡ capped longest
 
+-- the policy waits one time after the first arrival, and at most the other after the stamp, each capped
 pub record IsRelative (after longest : ℕ) (p : Relative) : Type 0 where
   pub follows : p.after_arrival ≡ capped after
   pub waits : p.wait ≡ capped longest
 
+-- the policy is the one asked for: it counts from first arrivals if a wait after those is given, and from stamps alone if none is
 abbrev pub IsPolicyOf : Option ℕ → ℕ → Chosen Absolute Relative → Type 0
 IsPolicyOf None longest (One p) = IsAbsolute longest p
 IsPolicyOf None longest (Other p) = ⊥
@@ -31,6 +33,7 @@ pub record TookNumber (before after : List (List ℕ)) (n : ℕ) : Type 0 where
   pub first : before ≡ text ∷ after
   pub number : ParsesUnsigned {E = ℕ} 64 10 text (Ok n)
 
+-- the same of the wait after a first arrival: it is set now, to the number that was taken
 abbrev pub TookWait : List (List ℕ) → List (List ℕ) → Option ℕ → Type 0
 TookWait before after None = ⊥
 TookWait before after (Some n) = TookNumber before after n

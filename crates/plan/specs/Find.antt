@@ -19,5 +19,6 @@ unfoldable pub find_in : List PortOf → ℕ → ℕ → Option (ℕ × ℕ)
 find_in [] id p = None
 find_in (q ∷ qs) id p = at_port p (place_in q.stations id 0) (find_in qs id (p + 1))
 
+-- where a station stands, as two numbers: its port's, and its place among the port's stations
 abbrev pub place_of : Place → ℕ × ℕ
 place_of p = (p.port.0, p.station)

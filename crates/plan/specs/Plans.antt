@@ -16,6 +16,7 @@ pub record PlanOf : Type 0 where
   pub rate : ℕ
   pub ports : List PortOf
 
+-- a plan that has its code and its rate, and no ports yet
 abbrev pub begun : ℕ → ℕ → PlanOf
 begun id rate = record { id = id; rate = rate; ports = [] }
 
@@ -28,6 +29,7 @@ abbrev pub port_from : ℕ → ℕ → Result Says Fault → Result PortOf Fault
 port_from rate id (Ok s) = cond (s.rate == rate) (Ok (record { id = id; base = s.base; stations = s.stations })) (Err fault.Rate)
 port_from rate id (Err e) = Err e
 
+-- the port from a configuration's body, if the sender's code is not reserved, and the body reads with at most 8 stations and the plan's rate
 abbrev pub bodied : ℕ → ℕ → Result (List ℕ) Fault → Result PortOf Fault
 bodied rate id (Ok body) = cond (reserved id) (Err fault.IdCode) (port_from rate id (configured body 8))
 bodied rate id (Err e) = Err e
@@ -45,10 +47,12 @@ full ps q =
 abbrev pub short : List PortOf → PortOf → ℕ → Bool
 short ps q room = nat_lt room (20 + parts_length ps + part_lengths q.stations + 4)
 
+-- the port that was asked for, if the plan has room for it, and then the buffer
 abbrev pub placed : List PortOf → ℕ → Result PortOf Fault → Result PortOf Fault
 placed ps room (Ok q) = cond (full ps q) (Err fault.PlanFull) (cond (short ps q room) (Err fault.Buffer) (Ok q))
 placed ps room (Err e) = Err e
 
+-- the plan's own code and rate are checked first, then the frame, and then the room for its port
 abbrev pub judged : Result Unit Fault → PlanOf → List ℕ → ℕ → Result PortOf Fault
 judged (Ok u) p bytes room = placed p.ports room (asked p.rate bytes)
 judged (Err e) p bytes room = Err e
@@ -62,6 +66,7 @@ abbrev pub add_answer : PlanOf → Result PortOf Fault → Result ℕ Fault
 add_answer p (Ok q) = Ok (length p.ports)
 add_answer p (Err e) = Err e
 
+-- what the code answers to an add, with the port as its number
 abbrev pub numbered : Result Port Fault → Result ℕ Fault
 numbered (Ok n) = Ok n.0
 numbered (Err e) = Err e

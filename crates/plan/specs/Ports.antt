@@ -10,6 +10,7 @@ pub record PortOf : Type 0 where
   pub base : ℕ
   pub stations : List Station
 
+-- how many stations the ports have together
 abbrev pub station_count : List PortOf → ℕ
 station_count ps = sum_by (λ p. length p.stations) ps
 
@@ -17,6 +18,7 @@ station_count ps = sum_by (λ p. length p.stations) ps
 abbrev pub body_lengths : List PortOf → List ℕ
 body_lengths ps = map (λ p. data_length p.stations) ps
 
+-- bytes of data body that all ports fill together
 abbrev pub body_length : List PortOf → ℕ
 body_length ps = sum_by (λ p. data_length p.stations) ps
 
@@ -24,5 +26,6 @@ body_length ps = sum_by (λ p. data_length p.stations) ps
 abbrev pub part_lengths : List Station → ℕ
 part_lengths ss = sum_by part_length ss
 
+-- bytes of the station parts of all ports
 abbrev pub parts_length : List PortOf → ℕ
 parts_length ps = sum_by (λ p. part_lengths p.stations) ps

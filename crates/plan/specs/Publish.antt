@@ -29,6 +29,7 @@ abbrev pub published_body : PlanOf → List ℕ → List ℕ
 published_body p buffer =
     bytes32 1000000 ++ (bytes16 (station_count p.ports) ++ (take (parts_length p.ports) (drop 20 buffer) ++ bytes16 p.rate))
 
+-- the header: a configuration 2 under the plan's code, with the reading as its time
 abbrev pub published_header : PlanOf → ℕ → Header
 published_header p reading = header_for Config2 (record { 0 = p.id }) (tag_at reading) (8 + parts_length p.ports)
 

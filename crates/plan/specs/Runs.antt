@@ -13,6 +13,7 @@ pub data Call : Type 0 where
   adding : List ℕ → Call
   publishing : ℕ → Call
 
+-- what the calls work on: a plan, and the one buffer in which its station parts are gathered
 pub record State : Type 0 where
   pub plan : PlanOf
   pub buffer : List ℕ
@@ -35,6 +36,7 @@ abbrev pub after_calls : State → List Call → State
 after_calls s [] = s
 after_calls s (c ∷ cs) = after_calls (after_call s c) cs
 
+-- the frame with these bytes, if the add of it was accepted
 abbrev pub if_accepted : Result PortOf Fault → List ℕ → List (List ℕ)
 if_accepted (Ok q) bytes = bytes ∷ []
 if_accepted (Err e) bytes = []
@@ -49,6 +51,7 @@ abbrev pub accepted : State → List Call → List (List ℕ)
 accepted s [] = []
 accepted s (c ∷ cs) = accepted_by s c ++ accepted (after_call s c) cs
 
+-- before any call: the plan has no ports, and the buffer is as it was given
 abbrev pub start : ℕ → ℕ → List ℕ → State
 start id rate buffer = record { plan = begun id rate; buffer = buffer }
 

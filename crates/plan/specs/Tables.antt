@@ -10,8 +10,10 @@ use Rattle.plan.specs.Ports.{PortOf}
 abbrev pub Table : Type 0
 Table = FixedList Record 16
 
+-- what a record says of its port: the sender's code, the time base and the stations
 abbrev pub port_of : Record → PortOf
 port_of r = record { id = r.id.0; base = r.time_base; stations = listed r.stations }
 
+-- what the records of a table say, port by port, in their order
 abbrev pub ports_of : Table → List PortOf
 ports_of t = map port_of (items_of t)

@@ -11,7 +11,7 @@ use common::{Fault, IdCode, LONGEST_BODY, Port};
 use config::{Config, MOST_STATIONS};
 use fixed::FixedList;
 use layout::data_len;
-use wire::{Frame, Header};
+use wire::Frame;
 
 // The most stations that one line may bring.
 const MOST_STATIONS_A_LINE: u16 = 8;
@@ -38,9 +38,8 @@ fn read_body(body: &[u8], id: IdCode, rate: u16) -> Result<Record, Fault>
 fn read_record(bytes: &[u8], rate: u16) -> Result<Record, Fault>
     ensures { port_by result ≡ asked rate bytes.now }
 {
-    // The sender stands in the header, and the body in the frame: a `Frame` is its body alone.
-    let header = Header::read(bytes)?;
-    let body = Frame::read(bytes)?.config2()?;
+    let (header, frame) = Frame::read_headed(bytes)?;
+    let body = frame.config2()?;
     read_body(body, header.id, rate)
 }
 

@@ -9,6 +9,7 @@ capped wait = min wait 60000000
 abbrev pub held : ℕ → ℕ
 held reading = min reading 5000000000000000
 
+-- a first arrival as a policy takes it, if there is one
 abbrev pub held_by : Option ℕ → Option ℕ
 held_by (Some reading) = Some (held reading)
 held_by None = None

@@ -30,6 +30,7 @@ first_carries : (bs : List ℕ) → Sized 0 bs → Carries (entry_at bs)
 first_carries bs s =
     let l = cut-length bs s.some s.few s.whole in record { line = s.line; some = l.0; few = l.1 }
 
+-- a feed can carry the frame of each record that leads the bytes
 pub leading_carries : (n : ℕ) (bs : List ℕ) → AllByRecursion Carries (leading n bs)
 unfolding leading
 leading_carries zero bs = tt
@@ -71,5 +72,6 @@ queue_steps =
       carried = λ q h. all-carried q.waiting h.0;
     }
 
+-- a queue of such records means a lawful feed
 pub queue-lawful : (q : Queue) → Held q → Lawful (playing q)
 queue-lawful q h = machine_lawful step waits Held queue_steps q h

@@ -7,6 +7,7 @@ use Rattle.capture.specs.Records.{Entry, records_of}
 use Rattle.feed.specs.Feeds.{Waiting, Op, Tick, Next, Behaviour}
 use Rattle.feed.specs.Machines.{behaviour}
 
+-- the records that wait, in their order, and those that are still to come
 pub record Queue : Type 0 where
   pub waiting : List Entry
   pub coming : List Entry
@@ -25,6 +26,7 @@ step q (Tick r) =
     record { waiting = q.waiting ++ take (due r q.coming) q.coming; coming = drop (due r q.coming) q.coming }
 step q Next = record { waiting = drop 1 q.waiting; coming = q.coming }
 
+-- the record that stands at the front of a list, if any does
 abbrev pub first : List Entry → Option Entry
 first [] = None
 first (e ∷ es) = Some e
@@ -33,9 +35,11 @@ first (e ∷ es) = Some e
 abbrev pub frame_of : Entry → Waiting
 frame_of e = record { port = e.port; bytes = e.frame }
 
+-- the frames that wait: those of the waiting records, in their order
 abbrev pub waits : Queue → List Waiting
 waits q = map frame_of q.waiting
 
+-- what waits after each sequence of ticks and nexts, from a queue on
 abbrev pub playing : Queue → Behaviour
 playing q = behaviour step waits q
 

@@ -36,11 +36,13 @@ untaken_carries : (o : Option Capture) → AllByRecursion Carries (untaken o)
 untaken_carries None = tt
 untaken_carries (Some c) = leading_carries (length c.rest.now) c.rest.now
 
+-- a feed can carry the frame of every record that is not yet taken
 pub queue-held : (s : Recorded) → Held (queue_of s)
 queue-held s =
     let n = due_by s.latest (untaken s.records) in
     let c = untaken_carries s.records in
     (All-take Carries n (untaken s.records) c, All-drop Carries n (untaken s.records) c)
 
+-- what waits at a recorded feed after each sequence of ticks and nexts, which is lawful
 abbrev pub meaning_of : Recorded → Meaning
 meaning_of s = record { waits = playing (queue_of s); lawful = queue-lawful (queue_of s) (queue-held s) }

@@ -17,6 +17,7 @@ filled_by None = 15
 abbrev pub port_at : List Outcome → ℕ → ℕ
 port_at lines line = min (filled_by (slice_get lines line)) 15
 
+-- a frame at the port that its line is led to, with its bytes as they are
 abbrev pub led : List Outcome → Waiting → Waiting
 led lines w = record { port = port_at lines w.port; bytes = w.bytes }
 
@@ -42,6 +43,7 @@ carried-led lines [] c = tt
 carried-led lines (x ∷ xs) c =
     (record { line = omega arith; some = c.0.some; few = c.0.few }, carried-led lines xs c.1)
 
+-- a lawful feed stays lawful when its lines are led to ports
 pub led-lawful : (lines : List Outcome) (m : Behaviour) → Lawful m → Lawful (all_led lines m)
 led-lawful lines m l =
     record {
@@ -51,5 +53,6 @@ led-lawful lines m l =
       carried = λ ops. carried-led lines (m ops) (l.carried ops);
     }
 
+-- what a feed means once its lines are led to ports
 abbrev pub wired : List Outcome → Meaning → Meaning
 wired lines m = record { waits = all_led lines m.waits; lawful = led-lawful lines m.waits m.lawful }

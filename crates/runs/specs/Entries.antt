@@ -27,10 +27,12 @@ abbrev pub front_by : List ℕ → Result Pulled Fault → Result PulledOf Fault
 front_by buffer (Ok x) = Ok (record { port = x.port.0; bytes = take x.len buffer; verdict = x.verdict })
 front_by buffer (Err f) = Err f
 
+-- the slot's frame, if the write succeeded, or else its refusal
 abbrev pub frame_by : List ℕ → Result ℕ Fault → Result (List ℕ) Fault
 frame_by frame (Ok l) = Ok frame
 frame_by frame (Err f) = Err f
 
+-- the entry of each call: its inputs, and what it answers in this state
 abbrev pub due : Whole → Request → EntryOf
 due w (ticking r scratch) = ticked r (length scratch) (on.tick_said w r scratch)
 due w (admitting q bytes) = admitted q bytes (on.admit_said w q bytes)
@@ -44,6 +46,7 @@ abbrev pub all_due : Whole → List Request → List EntryOf
 all_due w [] = []
 all_due w (r ∷ rs) = due w r ∷ all_due (leaves w r) rs
 
+-- the concentrator that a list of calls leaves, made one after the other
 abbrev pub left_by : Whole → List Request → Whole
 left_by w [] = w
 left_by w (r ∷ rs) = left_by (leaves w r) rs

@@ -14,6 +14,7 @@ use Rattle.runs.specs.Entries.{PulledOf, EntryOf, ticked, admitted, pulled, take
 abbrev pub whole_of : E.Setting → E.Closing → State → Whole
 whole_of e closing s = record { shut = None; setting = e; closing = closing; box = box_of e s; feed = s.feed }
 
+-- a tick as an event: accepted, with its reading, or refused by a number
 abbrev pub tick_event : ℕ → ℕ → Result Unit the_fault.Fault → Event
 tick_event r len (Ok u) = Ticked r len
 tick_event r len (Err f) = Refused (Ticking r len) (number f)
@@ -23,18 +24,22 @@ abbrev pub admit_event : ℕ → List ℕ → Result Unit the_fault.Fault → Ev
 admit_event q b (Ok u) = Took Host q b 0
 admit_event q b (Err f) = cond (number f == 28) (Refused (Admitting q b) 28) (Took Host q b (number f))
 
+-- a pull as an event: a frame was taken, whatever its verdict, or the call was refused
 abbrev pub pull_event : ℕ → Result PulledOf the_fault.Fault → Event
 pull_event room (Ok x) = Took (Feed room) x.port x.bytes (verdict_number_of x.verdict)
 pull_event room (Err f) = Refused (Pulling room) (number f)
 
+-- a take as an event: the number of the ticket that it handed out, or its refusal's
 abbrev pub take_event : Result ℕ the_fault.Fault → Event
 take_event (Ok k) = Lent k
 take_event (Err f) = Refused Taking (number f)
 
+-- a write as an event: the slot's number and the bytes of its frame, or the refusal
 abbrev pub write_event : ℕ → ℕ → Result (List ℕ) the_fault.Fault → Event
 write_event n room (Ok bytes) = Wrote room n bytes
 write_event n room (Err f) = Refused (Writing n room) (number f)
 
+-- the counts as an event: frames accepted, slots written and frames by number, or the refusal
 abbrev pub counts_event : Result CountsOf the_fault.Fault → Event
 counts_event (Ok c) = Told (c.given 0) c.written c.given
 counts_event (Err f) = Refused Counting (number f)
@@ -48,5 +53,6 @@ event_of (taken a) = take_event a
 event_of (wrote n room a) = write_event n room a
 event_of (counted a) = counts_event a
 
+-- entries as the events of a journal, in their order
 abbrev pub events_of : List EntryOf → List Event
 events_of es = map event_of es

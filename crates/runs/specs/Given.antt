@@ -24,6 +24,7 @@ request_of call.Take = taking
 request_of (call.Write n room) = writing n room
 request_of call.Counts = counting
 
+-- the same of a list of calls, each with a buffer of its own
 abbrev pub requests_of : List Call → List Request
 requests_of cs = map request_of cs
 
@@ -41,10 +42,12 @@ abbrev pub pulled_by : Result PulledFrame Fault → Result PulledOf Fault
 pulled_by (Ok x) = Ok (record { port = x.port.0; bytes = x.frame.items; verdict = x.verdict })
 pulled_by (Err f) = Err f
 
+-- what a write answered, with its frame's bytes as a list
 abbrev pub bytes_by : {Z : Type 0} → Result (Vec ℕ Z) Fault → Result (List ℕ) Fault
 bytes_by (Ok v) = Ok v.items
 bytes_by (Err f) = Err f
 
+-- a call with its inputs and its answer, as the program's entry has them
 abbrev pub entry_of : Entry → EntryOf
 entry_of (entry.Tick r room a) = ticked r room a
 entry_of (entry.Admit q frame a) = admitted q.0 frame.now a
@@ -53,6 +56,7 @@ entry_of (entry.Take a) = taken a
 entry_of (entry.Write n room a) = wrote n room (bytes_by a)
 entry_of (entry.Counts a) = counted (counts_by a)
 
+-- the same of all entries of the program's journal, in their order
 abbrev pub entries_of : {Z : Type 0} → Vec Entry Z → List EntryOf
 entries_of v = map entry_of v.items
 

@@ -38,6 +38,7 @@ Agreement o J = (other : Opening) (K : Journal) (v : Whole) → Reached other K 
     IgnoresArrivals (setting_in o) → Alike (setting_in o) p J K → tally J 22 ≡ 0 → tally K 22 ≡ 0 → Agreed (setting_in o) p J K
 
 -- ---- all of it
+-- the law of one run from an opening, with its journal and the concentrator that it leaves
 pub record Kept (o : Opening) (J : Journal) (w : Whole) : Type 0 where
   -- each call was answered as is due after those before it
   pub answered : Right (setting_in o) o.feed J

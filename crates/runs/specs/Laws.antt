@@ -22,5 +22,6 @@ pub record Answered (p : PlanOf) (closing : Closing) (bound reading : ℕ) : Typ
       Right (setting (open_setting p reading) closing bound reading facts) B (onto start (events_of (all_due (begins p reading closing B) rs)))
   pub law : Runs (setting (open_setting p reading) closing bound reading facts)
 
+-- whatever plan opens, under any closings from the stamp to the stamp plus a bound, and over any feed, every list of calls is answered as is due, and the law holds of it
 abbrev pub CallsKeepTheLaw : Type 0
 CallsKeepTheLaw = (p : PlanOf) (closing : Closing) (bound reading : ℕ) → Opens p closing bound reading → Answered p closing bound reading

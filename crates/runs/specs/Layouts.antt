@@ -22,6 +22,7 @@ use Rattle.laws.specs.Bytes.{Layout}
 use Rattle.runs.specs.Models.{block_by, block_of, blocks_of}
 
 module _ (e : E.Setting) where
+  -- a frame that is sound for a port has a body of the length of its blocks, and any other stands for absent blocks of that length
   pub by-sound : (p : ℕ) (b : List ℕ) (r : Result SampleOf the_fault.Fault) → K.sound_at e p b ≡ r → length (block_by (port_at e.ports p) r).body ≡ data_length (port_at e.ports p).stations
   by-sound p b (Ok x) z = sample_fits e.rate (port_at e.ports p) b x (passed (nat_lt p (length e.ports)) _ _ x z).1
   by-sound p b (Err f) z = length_blocks (port_at e.ports p).stations

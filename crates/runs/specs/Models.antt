@@ -22,9 +22,11 @@ abbrev pub block_by : PortOf → Result SampleOf the_fault.Fault → Block
 block_by q (Ok x) = record { quality = x.quality; body = x.body }
 block_by q (Err e) = record { quality = 0; body = absent_blocks q.stations }
 
+-- the block that these bytes give at port p
 abbrev pub block_of : E.Setting → ℕ → List ℕ → Block
 block_of e p b = block_by (port_at e.ports p) (sound_at e p b)
 
+-- by port, the block of the frame that a slot holds, if it holds one
 abbrev pub blocks_of : E.Setting → Contents → Blocks
 blocks_of e x = λ p. option_map (block_of e p) (x p)
 

@@ -22,6 +22,7 @@ use Rattle.engine.specs.Calls as K
 use Rattle.laws.specs.Setting.{Fault}
 use Rattle.runs.specs.Models.{sort_of}
 
+-- a refusal has a number from 1 to 19; of anything else nothing is said
 abbrev Small : {A : Type 0} → Result A the_fault.Fault → Type 0
 Small (Ok x) = Unit {0}
 Small (Err f) = (0 < number f) × (number f < 20)
@@ -76,6 +77,7 @@ numbers : (r : Result SampleOf the_fault.Fault) (k : ℕ) → Small r → sort_o
 numbers (Ok x) k h q = let z : ◌≡◌ {A = ℕ} 0 1 = cc in let no : ⊥ = omega arith in absurd no
 numbers (Err f) k h q = let w : number f ≡ k = cc in (omega (arith, h.0), omega (arith, h.1))
 
+-- what refuses a frame for its own sake, at whichever port, has a number from 1 to 19
 pub numbered : (e : E.Setting) (p : ℕ) (b : List ℕ) (k : ℕ) → sort_of (K.sound_at e p b) ≡ Fault k → (0 < k) × (k < 20)
 numbered e p b k q = numbers (K.sound_at e p b) k
     (small-cond (nat_lt p (length e.ports)) (sample_of e.rate (port_at e.ports p) b) (Err fault.Port) (small_sample e.rate (port_at e.ports p) b) (omega arith, omega arith)) q

@@ -35,6 +35,7 @@ left_true false b e = e
 some : (n : ℕ) → (n ≡ 0 → ⊥) → 0 < n
 some n h = omega (arith, h)
 
+-- of an engine that such a plan opens all is known that the law needs
 pub opened-facts : (p : PlanOf) (closing : Closing) (bound reading : ℕ) → Opens p closing bound reading → Opened (open_setting p reading) closing bound reading
 opened-facts p closing bound reading o =
     let a = passed (nat_lt 4000000000000000 reading) _ _ o.unrefused in

@@ -22,6 +22,7 @@ pub record Opened (e : E.Setting) (closing : E.Closing) (bound reading : ℕ) : 
   pub from : (t : ℕ) (a : Option ℕ) → t ≤ closing t a
   pub within : (t : ℕ) (a : Option ℕ) → closing t a ≤ t + bound
 
+-- a sound frame is at one of the plan's ports
 pub planned : (e : E.Setting) (p : ℕ) (b : List ℕ) (n : ℕ) → sort_of (K.sound_at e p b) ≡ Slot n → p < length e.ports
 planned e p b n q = elim (cases_lt p (length e.ports)) [
   | inl l ↦ l
@@ -30,6 +31,7 @@ planned e p b n q = elim (cases_lt p (length e.ports)) [
       let z : ◌≡◌ {A = ℕ} 0 1 = cc in let no : ⊥ = omega arith in absurd no
 ]
 
+-- what the law speaks of, for an engine that opened: ports, stamps, closings, the first slot and combined frames, with the facts of each
 abbrev pub setting : (e : E.Setting) (closing : E.Closing) (bound reading : ℕ) → Opened e closing bound reading → Setting
 setting e closing bound reading o = record {
   ports = length e.ports;

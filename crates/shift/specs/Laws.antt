@@ -25,6 +25,7 @@ pub record Moves (z : ℤ) (bs : List ℕ) : Type 0 where
   pub before : (i : ℕ) → i < 6 → slice_index (shifted z bs) i ≡ slice_index bs i
   pub behind : (i : ℕ) → 10 ≤ i → i + 2 < length bs → slice_index (shifted z bs) i ≡ slice_index bs i
 
+-- so it is with every frame that passes the four checks, whatever the shift
 abbrev pub SoundMoves : Type 0
 SoundMoves = (z : ℤ) (bs : List ℕ) (t : Told) → classified bs ≡ Ok t → Moves z bs
 

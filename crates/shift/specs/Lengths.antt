@@ -6,6 +6,7 @@ use Rattle.fields.specs.Fields.{fits, put, bytes32, written}
 use Rattle.wire.specs.Frames.{sealed, resealed}
 use Rattle.shift.specs.Shifts.{stamped, target, shifted}
 
+-- bytes put where there is room for them leave the length as it was
 pub length-put : (xs bs : List ℕ) (i : ℕ) → i + length bs ≤ length xs → length (put xs i bs) ≡ length xs
 length-put xs bs i h = simp (length-append, length-take, length-drop) (omega arith)
 
@@ -23,9 +24,11 @@ length-resealed xs =
     cond_both (nat_lt (length xs) 2) xs (sealed (take (length xs - 2) xs)) (λ ys. length ys ≡ length xs)
     (λ e. refl) (λ e. length-resealed-long xs (ltb-false (length xs) 2 e))
 
+-- a frame that gets another SOC and a fresh check word is as long as before
 pub length-stamped : (soc : Option ℕ) (bs : List ℕ) → length (stamped soc bs) ≡ length bs
 length-stamped None bs = refl
 length-stamped (Some soc) bs = length-resealed (written bs 6 (bytes32 soc)) ∙ length-written bs (bytes32 soc) 6
 
+-- no shift changes how long a frame is, sound or not
 pub length-shifted : (z : ℤ) (bs : List ℕ) → length (shifted z bs) ≡ length bs
 length-shifted z bs = length-stamped (target z bs) bs

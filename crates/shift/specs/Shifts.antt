@@ -14,6 +14,7 @@ abbrev pub in_soc : ℤ → Option ℕ
 in_soc (pos n) = cond (nat_le n 4294967295) (Some n) None
 in_soc (negsuc n) = None
 
+-- the shift is by no second at all
 abbrev pub is_zero : ℤ → Bool
 is_zero (pos n) = n == 0
 is_zero (negsuc n) = false
@@ -32,6 +33,7 @@ target_by (Ok t) (Some soc) z = moved z soc
 target_by (Ok t) None z = None
 target_by (Err e) soc z = None
 
+-- the SOC that a frame gets, if it is sound and its SOC moves
 abbrev pub target : ℤ → List ℕ → Option ℕ
 target z bs = target_by (classified bs) (soc_of bs) z
 
@@ -40,5 +42,6 @@ abbrev pub stamped : Option ℕ → List ℕ → List ℕ
 stamped None bs = bs
 stamped (Some soc) bs = resealed (written bs 6 (bytes32 soc))
 
+-- what a frame becomes by a shift of so many seconds
 abbrev pub shifted : ℤ → List ℕ → List ℕ
 shifted z bs = stamped (target z bs) bs

@@ -169,5 +169,6 @@ later_by w (Ok l) =
     (later-moved w _ _ (after_then (after_timed w.closing w.setting w.box l) (after_settled w.closing w.setting (on.timed w.box l))))
     (later_pulls (length (v.feed [])) v)
 
+-- a tick and the pulls that follow it write no slot, change no closed one, and never move the front back
 pub later_ticked : (w : Whole) (reading : ℕ) → Later w (ticked w reading)
 later_ticked w reading = later_if_open w.shut w _ (later_by w (on.tick_said w.box reading))

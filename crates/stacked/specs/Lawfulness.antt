@@ -43,5 +43,6 @@ module _ (port : ℕ) where
         carried = λ w r. waits_carried port w line r;
       }
 
+  -- a concentrator that stands under another is a lawful feed of its line
   pub stacked-lawful : (w : Whole) → port ≤ 15 → Reached w → Lawful (stacked port w)
   stacked-lawful w line r = machine_lawful step (waits port) Reached (steps line) w r

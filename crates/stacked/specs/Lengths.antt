@@ -35,6 +35,7 @@ body-length (q ∷ qs) x k h =
 header-length : (h : Header) → length (header_bytes h) ≡ 14
 header-length h = refl
 
+-- the frame of a slot has the length that its ports ask for, if every frame in it is as wide as its port's bodies
 pub frame-length : (id rate n : ℕ) (ps : List PortOf) (x : Blocks) → Wide ps x → length (slot_frame id rate ps n x) ≡ slot_length ps
 frame-length id rate n ps x w =
     let h : Header = header_for Data (record { 0 = id }) (slot_tag rate n (quality_of x (length ps))) (body_length ps) in

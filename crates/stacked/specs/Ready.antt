@@ -19,6 +19,7 @@ abbrev pub SameHeld : Box → Box → ℕ → ℕ → Type 0
 SameHeld s t n k = (j : ℕ) → n ≤ j → j < n + k → t.held j ≡ s.held j
 
 module _ (port : ℕ) (g : Setting) where
+  -- two boxes that hold the same in k slots from n on have the same frames ready of these
   pub same_frames : (s t : Box) (k n : ℕ) → SameHeld s t n k → frames port g t n k ≡ frames port g s n k
   same_frames s t zero n h = refl
   same_frames s t (suc k) n h =
@@ -58,6 +59,7 @@ module _ (port : ℕ) where
   within-shut (Some f) xs ys h = within_none
   within-shut None xs ys h = h
 
+  -- what waits at a concentrator waits later, too, in the same order
   pub waits_within : {w v : Whole} → Later w v → Within (waits port w) (waits port v)
   waits_within {w} {v} l =
       subst (λ (o : Option Fault). Within (waits port w) (on.if_open o [] (ready port v.setting v.box))) (sym l.shut)
@@ -68,5 +70,6 @@ module _ (port : ℕ) where
   carried-shut (Some f) xs h = tt
   carried-shut None xs h = h
 
+  -- all that waits at a concentrator a feed can carry
   pub waits_carried : (w : Whole) → port ≤ 15 → Reached w → AllCarried (waits port w)
   waits_carried w line r = carried-shut w.shut _ (frames_carried port w.setting w.box _ _ line r.narrow r.fits)

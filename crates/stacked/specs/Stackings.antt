@@ -45,11 +45,13 @@ module _ (ps : List PortOf) (narrow : body_length ps ≤ 1024) where
 narrow : (e : Engine) → body_length (ports_of e.terms.plan.table) ≤ 1024
 narrow e = let l = e.terms.plan.narrow in let m = e.terms.plan.measured in omega (arith, l, m)
 
+-- the code's concentrator is in a state that one under another can reach if, being open, it has no ticket out
 pub whole-reached : {F P : Type 0} {f : feed.Ghosts F} {p : policy.Ghosts P} (c : Concentrator F P f p) → ((whole c).shut ≡ None → (whole c).box.out ≡ None) → Reached (whole c)
 whole-reached c free =
     let e : Engine = c.engine in
     record { free = free; narrow = narrow e; fits = held-fits (ports_of e.terms.plan.table) (narrow e) e.ring (oldest_of e) }
 
+-- what waits for the box above after each sequence of ticks and nexts, which is lawful
 abbrev pub meaning_of : {F P : Type 0} {f : feed.Ghosts F} {p : policy.Ghosts P} → Stacked F P f p → Meaning
 meaning_of s =
     record {

@@ -28,6 +28,7 @@ abbrev pub drained_by : Whole → Result ℕ Fault → Whole
 drained_by w (Ok l) = drained (call.ticked_by w (Ok l))
 drained_by w (Err e) = w
 
+-- what a tick leaves; one that is shut stays as it is
 abbrev pub ticked : Whole → ℕ → Whole
 ticked w reading = on.if_open w.shut w (drained_by w (on.tick_said w.box reading))
 

@@ -24,6 +24,7 @@ oldest_of w = oldest w.setting w.box
 abbrev pub lent : Whole → Whole
 lent w = moved w (on.with_ticket w.box (Some (oldest_of w))) w.feed
 
+-- what is left once the oldest slot is written and its ticket spent
 abbrev pub written : Whole → Whole
 written w = moved w (on.cleared (on.with_ticket w.box (Some (oldest_of w))) (oldest_of w)) w.feed
 
@@ -42,6 +43,7 @@ pub record Refuses (w : Whole) : Type 0 where
   pub left : call.lent w ≡ w
 
 module _ (w : Whole) (r : Reached w) where
+  -- the oldest slot is lent, or nothing waits
   pub lends_or_refuses : Lends w ⊎ Refuses w
   lends_or_refuses = by-shut w.shut refl
     where
@@ -63,9 +65,11 @@ module _ (w : Whole) (r : Reached w) where
   room : (n : ℕ) → 1040 ≤ n → nat_lt n (slot_length w.setting.ports) ≡ false
   room n h = let l = r.narrow in le-ltb n (slot_length w.setting.ports) (omega (arith, l))
 
+  -- a write with that ticket into a buffer for the longest frame leaves the slot written
   pub wrote-next : (n : ℕ) → 1040 ≤ n → Lends w → call.wrote (lent w) (oldest_of w) n ≡ written w
   wrote-next n h l = rw (l.opened, eq-eqb (oldest_of w) (oldest_of w) refl, room n h)
 
+  -- and it answers the length of the combined frame
   pub write-said : (n : ℕ) → 1040 ≤ n → Lends w → call.write_said (lent w) (oldest_of w) n ≡ Ok (slot_length w.setting.ports)
   write-said n h l = rw (l.opened, eq-eqb (oldest_of w) (oldest_of w) refl, room n h)
 
@@ -75,6 +79,7 @@ module _ (w : Whole) (r : Reached w) where
       ap (wrote_by w) l.said
       ∙ (ap (λ (v : Whole). call.wrote v (oldest_of w) 1040) l.left ∙ wrote-next 1040 (omega arith) l)
 
+  -- where nothing waits a next changes nothing
   pub step_refuses : Refuses w → step w Next ≡ w
   step_refuses u = ap (wrote_by w) u.said
 
@@ -82,6 +87,7 @@ module _ (w : Whole) (r : Reached w) where
   abbrev pub more : ℕ → List Waiting
   more port = frames port w.setting w.box (suc (oldest_of w)) (w.box.front - suc (oldest_of w))
 
+  -- the first frame that waits is that of the oldest slot, and the others come behind
   pub first_waits : (port : ℕ) → Lends w → waits port w ≡ record { port = port; bytes = call.frame_of w (oldest_of w) } ∷ more port
   first_waits port l =
       let o : ℕ = oldest_of w in
@@ -89,6 +95,7 @@ module _ (w : Whole) (r : Reached w) where
       let n : w.box.front - o ≡ suc (w.box.front - suc o) = omega arith in
       rw (l.opened, n)
 
+  -- once it is written the others wait
   pub more_wait : (port : ℕ) → Lends w → waits port (written w) ≡ more port
   more_wait port l =
       let o : ℕ = oldest_of w in
@@ -102,6 +109,7 @@ module _ (w : Whole) (r : Reached w) where
   cleared-fits true held x e = cc
   cleared-fits false held x e = e
 
+  -- what is left then is a concentrator that calls lead to
   pub written_reached : Reached (written w)
   written_reached =
       record {

@@ -38,11 +38,13 @@ body_of bs = take (length bs - 16) (drop 14 bs)
 abbrev pub checks : List ℕ → Bool
 checks bs = check_word_of (take (length bs - 2) bs) == be16 bs (length bs - 2)
 
+-- what a frame with this header is told apart as, if FRAMESIZE is its length, and then if its check word is right
 abbrev pub told_by : Result Header Fault → List ℕ → Result Told Fault
 told_by (Err e) bs = Err e
 told_by (Ok h) bs =
     cond (h.size == length bs) (cond (checks bs) (Ok (telling h.kind (body_of bs))) (Err fault.CheckWord)) (Err fault.FrameSize)
 
+-- what a frame is told apart as, or the refusal of the first check that fails
 abbrev pub classified : List ℕ → Result Told Fault
 classified bs = told_by (header_of bs) bs
 
@@ -52,9 +54,15 @@ seen (frame.Data body) = of_data body.now
 seen (frame.Config2 body) = of_config2 body.now
 seen (frame.Other body) = of_other body.now
 
+-- the same, where the code may answer a refusal
 abbrev pub answered : Result Frame Fault → Result Told Fault
 answered (Ok f) = Ok (seen f)
 answered (Err e) = Err e
+
+-- the same of a frame behind its header
+abbrev pub answered_behind : Result (Header × Frame) Fault → Result Told Fault
+answered_behind (Ok x) = Ok (seen x.1)
+answered_behind (Err e) = Err e
 
 -- the body of a data frame
 abbrev pub data_body_of : Result Told Fault → Result (List ℕ) Fault

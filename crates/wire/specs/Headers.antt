@@ -17,6 +17,7 @@ time_of bs = record { soc = be32 bs 6; quality = be8 bs 10; count = be24 bs 11 }
 abbrev pub timed : List ℕ → Result TimeTag Fault
 timed bs = cond (nat_lt (length bs) 14) (Err Short) (Ok (time_of bs))
 
+-- the fields of a header whose SYNC word told a type and a version, or else the refusal
 abbrev pub headed : Result (FrameType × Version) Fault → List ℕ → Result Header Fault
 headed (Err e) bs = Err e
 headed (Ok s) bs = Ok (record { kind = s.0; version = s.1; size = be16 bs 2; id = record { 0 = be16 bs 4 }; time = time_of bs })
@@ -29,8 +30,10 @@ header_of bs = cond (nat_lt (length bs) 16) (Err Short) (headed (sync (be8 bs 0)
 abbrev pub bytes24 : ℕ → List ℕ
 bytes24 v = v / 65536 % 256 ∷ v / 256 % 256 ∷ v % 256 ∷ []
 
+-- the eight bytes that tell a time: SOC, the time quality and the count
 abbrev pub time_bytes : TimeTag → List ℕ
 time_bytes t = bytes32 t.soc ++ (t.quality ∷ bytes24 t.count)
 
+-- the fourteen bytes of a header as they are written
 abbrev pub header_bytes : Header → List ℕ
 header_bytes h = synced h.kind h.version ++ (bytes16 h.size ++ (bytes16 h.id.0 ++ time_bytes h.time))

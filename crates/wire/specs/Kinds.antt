@@ -16,10 +16,12 @@ type_code type.Config2 = 3
 type_code type.Command = 4
 type_code type.Config3 = 5
 
+-- the standard's number for each version: 1 for the edition of 2005, 2 for that of 2011
 abbrev pub version_code : Version → ℕ
 version_code version.Y2005 = 1
 version_code version.Y2011 = 2
 
+-- the type that a code stands for, if it is one of the six
 abbrev pub type_of : ℕ → Option FrameType
 type_of t =
     cond (t == 0) (Some type.Data)
@@ -27,6 +29,7 @@ type_of t =
     (cond (t == 2) (Some type.Config1)
     (cond (t == 3) (Some type.Config2) (cond (t == 4) (Some type.Command) (cond (t == 5) (Some type.Config3) None)))))
 
+-- the edition that a version number stands for, if it is one of the two
 abbrev pub version_of : ℕ → Option Version
 version_of v = cond (v == 1) (Some version.Y2005) (cond (v == 2) (Some version.Y2011) None)
 
@@ -34,6 +37,7 @@ version_of v = cond (v == 1) (Some version.Y2005) (cond (v == 2) (Some version.Y
 abbrev pub TellsType : ℕ → Result FrameType Fault → Type 0
 TellsType code r = r ≡ ok_or (type_of code) Sync
 
+-- a version's number is told as its edition, and another number is no SYNC word
 abbrev pub TellsVersion : ℕ → Result Version Fault → Type 0
 TellsVersion code r = r ≡ ok_or (version_of code) Sync
 
@@ -46,6 +50,7 @@ name_of type.Config2 = codes "configuration 2"
 name_of type.Command = codes "command"
 name_of type.Config3 = codes "configuration 3"
 
+-- a type and a version, if there are both; else it is no SYNC word
 abbrev pub both : Option FrameType → Option Version → Result (FrameType × Version) Fault
 both (Some t) (Some v) = Ok (t, v)
 both (Some t) None = Err Sync

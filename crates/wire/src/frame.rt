@@ -1,5 +1,6 @@
-ghost use Rattle.wire.specs.Frames.{answered, body_seen, checks, classified, config_body_of, data_body_of, seen};
-ghost use Rattle.std.specs.Prelude.{◌≡◌, ◌≤◌, Ok, length};
+ghost use Rattle.wire.specs.Frames.{answered, answered_behind, body_seen, checks, classified, config_body_of, data_body_of, seen};
+ghost use Rattle.std.specs.Prelude.{◌≡◌, ◌≤◌, IfOk, Ok, length};
+ghost use Rattle.wire.specs.Headers.{header_of};
 
 use crate::header::{HEADER_LEN, Header};
 use crate::kind::FrameType;
@@ -29,6 +30,15 @@ impl<'a> Frame<'a> {
     pub fn read(bytes: &'a [u8]) -> Result<Frame<'a>, Fault>
         ensures { answered result ≡ classified bytes.now }
     {
+        let (_, frame) = Frame::read_headed(bytes)?;
+        Ok(frame)
+    }
+
+    // The same, with the frame's header.
+    pub fn read_headed(bytes: &'a [u8]) -> Result<(Header, Frame<'a>), Fault>
+        ensures frame { answered_behind result ≡ classified bytes.now }
+        ensures header { IfOk result (λ x. header_of bytes.now ≡ Ok x.0) }
+    {
         let header = Header::read(bytes)?;
         if usize::from(header.size) != bytes.len() {
             return Err(Fault::FrameSize);
@@ -37,11 +47,12 @@ impl<'a> Frame<'a> {
             return Err(Fault::CheckWord);
         }
         let body = &bytes[HEADER_LEN..bytes.len() - 2];
-        match header.kind {
-            FrameType::Data => Ok(Frame::Data(body)),
-            FrameType::Config2 => Ok(Frame::Config2(body)),
-            _ => Ok(Frame::Other(body)),
-        }
+        let frame = match header.kind {
+            FrameType::Data => Frame::Data(body),
+            FrameType::Config2 => Frame::Config2(body),
+            _ => Frame::Other(body),
+        };
+        Ok((header, frame))
     }
 
     // The body of a data frame; any other frame is of a type that is not due.

@@ -1,4 +1,4 @@
-use Rattle.std.proofs.Common.{rules, sym}
+use Rattle.std.proofs.Common.{rules}
 use Rattle.wire.proofs.Headed.{header-id}
 use Rattle.plan.specs.Plans.{asked}
 use Rattle.plan.proofs.add.read_record.Goals as goal
@@ -7,10 +7,6 @@ pub returns-in_err-header : goal.returns-in_err-header
 unfolding asked
 returns-in_err-header c = search rules
 
-pub returns-in_err-read : goal.returns-in_err-read
-unfolding asked
-returns-in_err-read c = search rules
-
 pub returns-in_err-body : goal.returns-in_err-body
 unfolding asked
 returns-in_err-body c = search rules
@@ -18,5 +14,5 @@ returns-in_err-body c = search rules
 pub returns : goal.returns
 unfolding asked
 returns c =
-    let id = header-id c.args.bytes.now c.in_ok-header.header (sym c.in_ok-header.ensures) in
+    let id = header-id c.args.bytes.now c.in_ok-header.header c.in_ok-header.ensures.header in
     search rules
