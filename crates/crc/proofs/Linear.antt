@@ -59,3 +59,17 @@ by_table c b =
     let w : bit_and c 255 * 256 % 65536 ≡ c % 256 * 256 = omega (arith, m) in
     ap eight_shifts (split c b) ∙ (shifts_low (bit_xor (c / 256) b * 256) (c % 256) (omega arith)
     ∙ (xor_comm (table_rule (bit_xor (c / 256) b)) (c % 256 * 256) ∙ ap (λ u. bit_xor u (table_rule (bit_xor (c / 256) b))) (sym w)))
+
+-- a byte that is taken in after another: the low byte of the register meets it at once
+pub by_table_next : (c b n : ℕ) → taken (taken c b) n ≡ taken (table_rule (bit_xor (c / 256) b)) (bit_xor (bit_and c 255) n)
+unfolding taken
+by_table_next c b n =
+    let low : ℕ = bit_and c 255 * 256 in
+    let word : ℕ = table_rule (bit_xor (c / 256) b) in
+    let m : bit_and c 255 ≡ c % 256 = and_mask c 8 in
+    let kept : low % 65536 ≡ low = omega (arith, m) in
+    let first : taken c b ≡ bit_xor low word = by_table c b ∙ ap (λ u. bit_xor u word) kept in
+    let joined : bit_xor (bit_xor low word) (n * 256) ≡ bit_xor word (bit_xor (bit_and c 255) n * 256) =
+    ap (λ u. bit_xor u (n * 256)) (xor_comm low word)
+    ∙ (xor_assoc word low (n * 256) ∙ ap (bit_xor word) (sym (xor_scaled 8 (bit_and c 255) n))) in
+    ap (λ u. taken u n) first ∙ ap eight_shifts joined

@@ -2,7 +2,7 @@
 #![tactic(auto)]
 
 ghost use Rattle.crc.specs.CheckWord.{Example, check_word_of, taken, table_rule};
-ghost use Rattle.std.specs.Prelude.{◌≡◌};
+ghost use Rattle.std.specs.Prelude.{◌≡◌, ◌/◌, bit_xor};
 
 // The stored word for the byte `i`: what the register holds after eight shifts of `i` at its top.
 fn word(i: u8) -> u16
@@ -37,26 +37,60 @@ fn word(i: u8) -> u16
     TABLE[usize::from(i)]
 }
 
-// The register after one byte more.
-fn step(register: u16, byte: u8) -> u16
-    ensures { result ≡ taken register byte }
-{
-    let top = (register >> 8) as u8 ^ byte;
-    ((register & 0xff) << 8) ^ word(top)
+// A register, and the byte that it takes in next.
+#[derive(Clone, Copy)]
+struct Pending {
+    register: u16,
+    byte: u8,
+}
+
+impl Pending {
+    // The stored word that the byte picks with the register's high byte.
+    fn word(self) -> u16
+        ensures { result ≡ table_rule (bit_xor (self.register / 256) self.byte) }
+    {
+        word((self.register >> 8) as u8 ^ self.byte)
+    }
+
+    // The same a byte further. The register's low byte, which is to meet that byte, is joined to it at once:
+    // then each word that is read waits for the one before it, and for nothing more.
+    fn next(self, byte: u8) -> Pending
+        ensures { taken result.register result.byte ≡ taken (taken self.register self.byte) byte }
+    {
+        Pending {
+            register: self.word(),
+            byte: (self.register & 0xff) as u8 ^ byte,
+        }
+    }
+
+    // The register with the byte taken in.
+    fn last(self) -> u16
+        ensures { result ≡ taken self.register self.byte }
+    {
+        ((self.register & 0xff) << 8) ^ self.word()
+    }
 }
 
 // The check word of `bytes`. Byte by byte, and four of them in each turn of the loop.
 pub fn check_word(bytes: &[u8]) -> u16
     ensures { result ≡ check_word_of bytes.now }
 {
-    let mut register = 0xffff;
-    let mut rest = bytes;
+    let register = 0xffff;
+    let Some((byte, mut rest)) = bytes.split_first() else {
+        return register;
+    };
+    let mut pending = Pending {
+        register,
+        byte: *byte,
+    };
     while let Some(([a, b, c, d], behind)) = rest.split_first_chunk::<4>() {
-        register = step(step(step(step(register, *a), *b), *c), *d);
+        pending = pending.next(*a).next(*b).next(*c).next(*d);
         rest = behind;
     }
-    rest.iter()
-        .fold(register, |register, byte| step(register, *byte))
+    for byte in rest {
+        pending = pending.next(*byte);
+    }
+    pending.last()
 }
 
 // The worked example of the definition: the digits 1 to 9 have the check word 29B1h.
