@@ -4,3 +4,4 @@ mod Back
 mod Held
 mod Holds
 mod Finds
+pub mod Spans

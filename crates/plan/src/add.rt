@@ -6,6 +6,7 @@ ghost use Rattle.plan.specs.Views.{requested_by, passing, plan_of, port_by};
 use crate::plan::{BEHIND_PARTS, PARTS_AT, Plan};
 use crate::record::Record;
 use crate::request::Request;
+use crate::span::Span;
 use crate::table::no_ports;
 use common::{Fault, IdCode, LONGEST_BODY, Port};
 use config::{Config, MOST_STATIONS};
@@ -62,7 +63,7 @@ impl Plan {
             id,
             rate,
             table: no_ports(),
-            lens: FixedList::new(0),
+            spans: FixedList::new(Span { at: 0, len: 0 }),
             stations: 0,
             body: 0,
             parts: 0,
@@ -114,7 +115,7 @@ impl Plan {
         // There is room, so the answer that there was is let go.
         let len = data_len(&request.port.stations);
         self.table.push(request.port);
-        self.lens.push(len);
+        self.spans.push(Span { at: self.body, len });
         self.stations += request.port.stations.len();
         self.body += len;
         self.parts += request.parts.len();

@@ -7,10 +7,12 @@ mod plan;
 mod publish;
 mod record;
 mod request;
+mod span;
 mod table;
 mod tell;
 
 pub use find::Place;
 pub use plan::Plan;
 pub use record::Record;
+pub use span::Span;
 pub use table::Table;

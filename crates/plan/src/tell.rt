@@ -1,8 +1,9 @@
 ghost use Rattle.std.specs.Prelude.{◌≡◌, ◌≤◌};
-ghost use Rattle.plan.specs.Ports.{body_length, body_lengths};
+ghost use Rattle.plan.specs.Ports.{body_length, body_spans};
 ghost use Rattle.plan.specs.Views.{plan_of};
 
 use crate::plan::Plan;
+use crate::span::Span;
 use common::IdCode;
 
 impl Plan {
@@ -20,11 +21,11 @@ impl Plan {
         self.rate
     }
 
-    // The length of each port's body in a data frame, in the order of the ports.
-    pub fn body_lens(&self) -> &[usize]
-        ensures { result.now ≡ body_lengths (plan_of self.now).ports }
+    // Where each port's body stands in a combined data frame, in the order of the ports.
+    pub fn body_spans(&self) -> &[Span]
+        ensures { result.now ≡ body_spans (plan_of self.now).ports }
     {
-        self.lens.as_slice()
+        self.spans.as_slice()
     }
 
     // The length of a combined data frame's body.

@@ -1,12 +1,12 @@
 use Rattle.std.proofs.Common.{sym, ap, ◌∙◌, arith}
-use Rattle.plan.specs.Ports.{station_count, body_length, body_lengths, parts_length}
+use Rattle.plan.specs.Ports.{station_count, body_length, body_spans, parts_length}
 use Rattle.plan.proofs.plan.Plan.begin.Goals as goal
 
 pub invariant_of-result : goal.invariant_of-result
 invariant_of-result c =
     let e = c.no_ports.ensures in
     record {
-      lengths = c.new.ensures ∙ sym (ap body_lengths e);
+      spanned = c.new.ensures ∙ sym (ap body_spans e);
       counted = omega (arith, ap station_count e);
       measured = omega (arith, ap body_length e);
       filled = omega (arith, ap parts_length e);
