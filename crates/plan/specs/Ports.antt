@@ -14,7 +14,7 @@ pub record PortOf : Type 0 where
 abbrev pub station_count : List PortOf → ℕ
 station_count ps = sum_by (λ p. length p.stations) ps
 
--- bytes of data body that the ports fill, port by port and together
+-- the length of each port's data body, port by port
 abbrev pub body_lengths : List PortOf → List ℕ
 body_lengths ps = map (λ p. data_length p.stations) ps
 
@@ -22,7 +22,7 @@ body_lengths ps = map (λ p. data_length p.stations) ps
 abbrev pub body_length : List PortOf → ℕ
 body_length ps = sum_by (λ p. data_length p.stations) ps
 
--- bytes of the station parts of a list of stations, and of all ports
+-- bytes of the parts that describe some stations, all together
 abbrev pub part_lengths : List Station → ℕ
 part_lengths ss = sum_by part_length ss
 
