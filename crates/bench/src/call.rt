@@ -31,6 +31,7 @@ impl<'a> Call<'a> {
         }
     }
 
+    // The kind that the call is of.
     pub fn kind(self) -> Kind {
         match self {
             Call::Tick(_) => Kind::Tick,

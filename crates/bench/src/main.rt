@@ -13,6 +13,7 @@ use load::{Load, read_input};
 use output::Output;
 use std::process::ExitCode;
 
+// Reads the load, makes its calls, and prints what the arguments ask for.
 fn run(rt: &HostRuntime) -> anyhow::Result<()> {
     let output = Output::read(rt)?;
     let bytes = read_input(rt)?;

@@ -21,6 +21,7 @@ pub struct Meter {
 }
 
 impl Meter {
+    // A meter that starts now, with nothing counted.
     pub fn start(rt: &HostRuntime) -> io::Result<Meter> {
         let none = Cost {
             calls: 0,

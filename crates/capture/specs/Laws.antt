@@ -8,7 +8,7 @@ use Rattle.capture.specs.Records.{Entry, header, records_of}
 abbrev pub bytes64 : ℕ → List ℕ
 bytes64 v = bytes32 (v / 4294967296) ++ bytes32 v
 
--- the bytes of a record, and of a capture
+-- the bytes of a record: its reading, its line, its frame's length and its frame
 abbrev pub record_bytes : Entry → List ℕ
 record_bytes e = bytes64 e.reading ++ (e.port ∷ (bytes16 (length e.frame) ++ e.frame))
 

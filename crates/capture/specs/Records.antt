@@ -17,7 +17,7 @@ pub record Entry : Type 0 where
 abbrev pub entry_of : Record → Entry
 entry_of r = record { reading = r.reading; port = r.port.0; frame = r.frame.now }
 
--- the record that begins the bytes, its size, and the bytes behind it
+-- the record that begins the bytes, as they read, sound or not
 abbrev pub entry_at : List ℕ → Entry
 entry_at bs = record { reading = be64 bs 0; port = be8 bs 8; frame = take (be16 bs 9) (drop 11 bs) }
 

@@ -19,7 +19,7 @@ pub record Whole : Type 0 where
   pub box : Box
   pub feed : Behaviour
 
--- of an engine, a policy's closings and a feed
+-- an engine with a policy's closings and a feed's behaviour beside it, as one concentrator
 abbrev pub joined : State → Closing → Behaviour → Whole
 joined e closing feed = record { shut = e.shut; setting = e.setting; closing = closing; box = e.box; feed = feed }
 
@@ -27,11 +27,11 @@ joined e closing feed = record { shut = e.shut; setting = e.setting; closing = c
 abbrev pub whole : {F P : Type 0} {f : feed.Ghosts F} {p : policy.Ghosts P} → Concentrator F P f p → Whole
 whole {f = f} {p = p} c = joined (state_of c.engine) (p.closing c.policy) (f.meaning c.feed).waits
 
--- with other slots and another feed
+-- a concentrator with other slots and another feed
 abbrev pub moved : Whole → Box → Behaviour → Whole
 moved w b f = record { shut = w.shut; setting = w.setting; closing = w.closing; box = b; feed = f }
 
--- opened with a plan, a policy, a reading and a feed
+-- a concentrator that is opened, and not shut, with a plan, a reading, a policy's closings and a feed
 abbrev pub begins : PlanOf → ℕ → Closing → Behaviour → Whole
 begins p reading closing feed =
     record { shut = None; setting = open_setting p reading; closing = closing; box = opened closing (open_setting p reading) reading; feed = feed }

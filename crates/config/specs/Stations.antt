@@ -10,16 +10,16 @@ use Rattle.config.specs.declared.station.Station.{Station}
 abbrev pub part_length : Station → ℕ
 part_length s = 30 + 20 * s.phasors + 20 * s.analogs + 260 * s.digitals
 
--- ID, FORMAT and the three counts stand behind the station's name of 16 bytes
+-- the station that a part describes: ID, FORMAT and the three counts stand behind its name of 16 bytes
 abbrev pub shape_at : List ℕ → Station
 shape_at bs =
     record { id = record { 0 = be16 bs 16 }; format = record { 0 = be16 bs 18 }; phasors = be16 bs 20; analogs = be16 bs 22; digitals = be16 bs 24 }
 
--- at most 32 phasors, 16 analogs and 4 digital words
+-- a station has at most 32 phasors, 16 analogs and 4 digital words
 abbrev pub few : Station → Bool
 few s = nat_le s.phasors 32 && (nat_le s.analogs 16 && nat_le s.digitals 4)
 
--- a station, number k, of whose part n bytes are there
+-- a station, number k, if its counts are few, its code is not reserved and its part is among the n bytes that are there, else the refusal of the first that fails
 abbrev pub judged : Station → ℕ → ℕ → Result Station Fault
 judged s k n =
     cond (few s) (cond (reserved s.id.0) (Err fault.IdCode) (cond (nat_le (part_length s) n) (Ok s) (Err (fault.StationLength k))))
@@ -34,7 +34,7 @@ abbrev pub before : List Station → Result (List Station) Fault → Result (Lis
 before ss (Ok ts) = Ok (ss ++ ts)
 before ss (Err e) = Err e
 
--- nothing is left behind the last station
+-- no more stations, if nothing is left behind the last one, else the refusal
 abbrev pub ended : List ℕ → ℕ → Result (List Station) Fault
 ended bs k = cond (length bs == 0) (Ok []) (Err (fault.StationLength k))
 

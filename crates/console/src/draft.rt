@@ -19,6 +19,7 @@ pub struct Draft {
 }
 
 impl Draft {
+    // No plan yet, and a buffer of filler.
     pub fn new(heap: Global) -> Result<Draft, AllocError> {
         Ok(Draft {
             plan: None,
@@ -27,6 +28,7 @@ impl Draft {
         })
     }
 
+    // The plan, once one was begun.
     pub fn plan(&self) -> Result<Plan, Trouble> {
         self.plan.ok_or(Trouble::NoPlan)
     }
@@ -49,12 +51,14 @@ impl Draft {
         Answer::Done
     }
 
+    // Adds a port to the plan, with that much of the buffer.
     pub fn add(&mut self, frame: &[u8], room: usize) -> Result<Answer<'static>, Trouble> {
         let plan = self.plan.as_mut().ok_or(Trouble::NoPlan)?;
         let port = plan.add(frame, front(self.buffer.as_mut_slice(), room))?;
         Ok(Answer::Added(port))
     }
 
+    // Publishes the plan in that much of the buffer.
     pub fn publish(&mut self, reading: u64, room: usize) -> Result<Answer<'_>, Trouble> {
         let plan = self.plan()?;
         let buffer = front(self.buffer.as_mut_slice(), room);
@@ -62,6 +66,7 @@ impl Draft {
         Ok(Answer::Published(front(buffer, len)))
     }
 
+    // Looks a station up in the plan.
     pub fn find(&self, id: IdCode) -> Result<Answer<'static>, Trouble> {
         Ok(Answer::Found(self.plan()?.find(id)))
     }

@@ -21,6 +21,7 @@ use input::read_lines;
 use run::run;
 use std::process::ExitCode;
 
+// Reads all lines, and then answers them.
 fn console(rt: &HostRuntime) -> anyhow::Result<()> {
     let lines = read_lines(rt)?;
     run(rt, lines.as_slice())

@@ -16,6 +16,7 @@ pub struct Session<'a> {
 }
 
 impl<'a> Session<'a> {
+    // A session without a plan and without a box.
     pub fn new(heap: Global) -> Result<Session<'a>, AllocError> {
         Ok(Session {
             heap,

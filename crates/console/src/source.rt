@@ -25,6 +25,7 @@ pub enum Source {
 }
 
 impl Source {
+    // The feed that the next words name.
     pub fn read(words: &mut Words) -> Result<Source, Reason> {
         match words.next()? {
             "silent" => Ok(Source::Silent),
@@ -78,6 +79,7 @@ fn simple(kind: &str, words: &mut Words) -> Result<Simple, Reason> {
     }
 }
 
+// The policy that the next words name.
 pub fn read_policy(words: &mut Words) -> Result<AnyPolicy, Reason> {
     match words.next()? {
         "soon" => Ok(AnyPolicy::Other(Sooner::new(

@@ -18,6 +18,7 @@ pub struct Words<'a> {
 }
 
 impl<'a> Words<'a> {
+    // All words of a line.
     pub fn of(heap: Global, line: &'a str) -> Words<'a> {
         Words {
             heap,
@@ -25,6 +26,7 @@ impl<'a> Words<'a> {
         }
     }
 
+    // The next word.
     pub fn next(&mut self) -> Result<&'a str, Reason> {
         self.words.next().ok_or(Reason::TooFewWords)
     }
@@ -36,6 +38,7 @@ impl<'a> Words<'a> {
             .map_or(Ok(()), |_| Err(Reason::TooManyWords))
     }
 
+    // The next word, as a number of 64 bits.
     pub fn number(&mut self) -> Result<u64, Reason> {
         decimal(self.next()?)
     }
@@ -45,14 +48,17 @@ impl<'a> Words<'a> {
         Ok(T::try_from(self.number()?)?)
     }
 
+    // The next word, as a rate.
     pub fn rate(&mut self) -> Result<u16, Reason> {
         self.small()
     }
 
+    // The next word, as the code of a sender.
     pub fn id(&mut self) -> Result<IdCode, Reason> {
         Ok(IdCode(self.small()?))
     }
 
+    // The next word, as the number of a line.
     pub fn port(&mut self) -> Result<Port, Reason> {
         Ok(Port(self.small()?))
     }
@@ -66,10 +72,12 @@ impl<'a> Words<'a> {
         Ok(room)
     }
 
+    // The bytes that the next word gives in hex.
     pub fn bytes(&mut self) -> Result<Vec<u8>, Reason> {
         bytes_of(self.heap, self.next()?)
     }
 
+    // The sixteen shifts that the next word lists.
     pub fn shifts(&mut self) -> Result<[i32; 16], Reason> {
         sixteen(self.next()?)
     }

@@ -13,7 +13,8 @@ use Rattle.engine.specs.Limits.{last_reading, longest_step, earliest, window, mo
 use Rattle.engine.specs.Boxes.{Setting, Closing, Box, stamp, oldest}
 use Rattle.engine.specs.Closing.{settled, settled_by}
 
--- ---- shut: a call answers the number and changes nothing
+-- ---- shut: a call answers the refusal and changes nothing
+-- what a call answers: the refusal if it is shut, else the answer r
 abbrev pub unless_shut : {A : Type 0} → Option Fault → Result A Fault → Result A Fault
 unless_shut (Some f) r = Err f
 unless_shut None r = r
@@ -50,7 +51,7 @@ abbrev pub tick_said : Box → ℕ → Result ℕ Fault
 tick_said s reading =
     cond (nat_lt last_reading reading || nat_lt (s.latest + longest_step) reading) (Err fault.Reading) (Ok (max reading s.latest))
 
--- the latest reading is l
+-- a box whose latest reading is l from now on
 abbrev pub timed : Box → ℕ → Box
 timed s l =
     record { latest = l; front = s.front; written = s.written; held = s.held; arrived = s.arrived; out = s.out; tally = s.tally; judged = s.judged }
@@ -115,7 +116,7 @@ abbrev pub counted : Box → ℕ → Box
 counted s v =
     record { latest = s.latest; front = s.front; written = s.written; held = s.held; arrived = s.arrived; out = s.out; tally = λ u. s.tally u + one (v == u); judged = suc s.judged }
 
--- a sample of port q is kept
+-- a box once a sample of port q is kept: it is held in its slot, whose first arrival is now, if it had none
 abbrev pub kept : Box → ℕ → SampleOf → Box
 kept s q x =
     record {
@@ -150,7 +151,8 @@ taken closing g s q bytes = counted (placed closing g s q (judge g s q bytes)) (
 abbrev pub admitted : Closing → Setting → Box → ℕ → List ℕ → Box
 admitted closing g s q bytes = cond (exhausted s) s (taken closing g s q bytes)
 
--- ---- counts: the slots written, the frames judged, and by number those that were given it, 0 for those accepted
+-- ---- counts
+-- what counts tell: the slots written, the frames judged, and by number those that were given it, 0 for those accepted
 pub record CountsOf : Type 0 where
   pub written : ℕ
   pub judged : ℕ
@@ -199,7 +201,7 @@ write_said g s n room =
 abbrev pub frame_of : Setting → Box → ℕ → List ℕ
 frame_of g s n = slot_frame g.id g.rate g.ports n (s.held n)
 
--- slot n is written: its place is cleared and its ticket spent
+-- a box once slot n is written: its place is cleared, it counts, and its ticket is spent
 abbrev pub cleared : Box → ℕ → Box
 cleared s n =
     record {
@@ -213,7 +215,7 @@ cleared s n =
       judged = s.judged;
     }
 
--- for want of room the slot is put back, with its ticket spent
+-- a box after a write with the ticket n: the slot is written, or put back with its ticket spent for want of room; a wrong ticket changes nothing
 abbrev pub wrote_by : Setting → Box → ℕ → ℕ → Box
 wrote_by g s n room =
     cond (is_out s.out n) (cond (nat_lt room (slot_length g.ports)) (with_ticket s None) (cleared s n)) s

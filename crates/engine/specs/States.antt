@@ -13,15 +13,15 @@ pub record State : Type 0 where
   pub setting : Setting
   pub box : Box
 
--- with another box
+-- an engine with another box
 abbrev pub with_box : State → Box → State
 with_box e b = record { shut = e.shut; plan = e.plan; setting = e.setting; box = b }
 
--- with the box that a call leaves, unless it is shut
+-- an engine with the box that a call leaves, unless it is shut
 abbrev pub left : State → Box → State
 left e b = with_box e (on.if_open e.shut e.box b)
 
--- opened with a plan, under a policy, at a reading
+-- an engine that is opened, and not shut, with a plan, under a policy, at a reading
 abbrev pub begins : Closing → Plan → ℕ → State
 begins closing p reading =
     let setting = on.open_setting (plan_of p) reading in

@@ -41,7 +41,7 @@ box_of e =
 abbrev pub state_of : Engine → State
 state_of e = record { shut = e.terms.shut; plan = e.terms.plan; setting = setting_of e; box = box_of e }
 
--- that of an engine that holds nothing yet
+-- what an engine stands for that was made of these terms at a reading, and holds nothing yet
 abbrev pub fresh : Terms → ℕ → State
 fresh t reading = record { shut = t.shut; plan = t.plan; setting = setting_by t; box = begun (setting_by t) reading }
 

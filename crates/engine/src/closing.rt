@@ -21,7 +21,7 @@ impl Engine {
 
     // Where the front stands once all up to the highest ripe slot is closed. Slots whose bound has passed are all ripe, and at most 32
     // have a stamp that has come and a bound that has not, so the policy is asked at most 33 times.
-    // The limit depends on the rate, so a type for it would hold the rate too.
+    // No type stands for a number within the limit: that depends on the rate, which the type would have to hold too.
     fn past_ripe<P: Policy>(&self, policy: &P) -> u64
         ensures value { result ≡ past_ripe_of (P.closing policy.now) (setting_of self.now) (box_of self.now) }
         ensures near { result ≤ slot_limit (setting_of self.now).rate }

@@ -12,6 +12,7 @@ joined a b [] = a [] ++ b []
 joined a b (Tick r ∷ ops) = joined (after a (Tick r)) (after b (Tick r)) ops
 joined a b (Next ∷ ops) = pick (a []) (joined (after a Next) b ops) (joined a (after b Next) ops)
 
+-- a tick of two joined feeds keeps all that waited, in its order
 ticked : (a b : Behaviour) → Lawful a → Lawful b → (ops : List Op) (r : ℕ) → Within (joined a b ops) (joined a b (ops ++ (Tick r ∷ [])))
 ticked a b la lb [] r = within-append (la.ticked [] r) (lb.ticked [] r)
 ticked a b la lb (Tick q ∷ ops) r =
@@ -28,6 +29,7 @@ first_gone : (u u' v v' : List Waiting) → u' ≡ rest u → v' ≡ rest v → 
 first_gone [] u' v v' p q = q
 first_gone (x ∷ xs) u' v v' p q = ap (λ z. z ++ v) p
 
+-- a next of two joined feeds takes the first frame
 nexted : (a b : Behaviour) → Lawful a → Lawful b → (ops : List Op) → joined a b (ops ++ (Next ∷ [])) ≡ rest (joined a b ops)
 nexted a b la lb [] = first_gone (a []) (a (Next ∷ [])) (b []) (b (Next ∷ [])) (la.nexted []) (lb.nexted [])
 nexted a b la lb (Tick q ∷ ops) =
@@ -43,15 +45,18 @@ nexted a b la lb (Next ∷ ops) =
 pub idle-same : (m : Behaviour) → Lawful m → m [] ≡ [] → after m Next ≡ m
 idle-same m l e = fun_ext (λ ops. l.idle [] ops e)
 
+-- if two lists together are empty, each is
 both-none : (u v : List Waiting) → u ++ v ≡ [] → (u ≡ []) × (v ≡ [])
 both-none [] v e = (refl, e)
 both-none (x ∷ xs) v e = (cc, cc)
 
+-- a next with nothing waiting at either of two joined feeds changes nothing
 idle_now : (a b : Behaviour) → Lawful b → (more : List Op) → a [] ≡ [] → b [] ≡ [] → joined a b (Next ∷ more) ≡ joined a b more
 idle_now a b lb more p q =
     ap (λ (v : List Waiting). pick v (joined (after a Next) b more) (joined a (after b Next) more)) p
     ∙ ap (λ (m : Behaviour). joined a m more) (idle-same b lb q)
 
+-- nor does it after any operations
 idle : (a b : Behaviour) → Lawful a → Lawful b → (ops more : List Op) → joined a b ops ≡ [] → joined a b (ops ++ (Next ∷ more)) ≡ joined a b (ops ++ more)
 idle a b la lb [] more e = let h = both-none (a []) (b []) e in idle_now a b lb more h.0 h.1
 idle a b la lb (Tick q ∷ ops) more e =
@@ -64,6 +69,7 @@ idle a b la lb (Next ∷ ops) more e =
     by-pick [] h none some = none h
     by-pick (x ∷ xs) h none some = some h
 
+-- what waits at two joined feeds a feed can carry, after any operations
 carried : (a b : Behaviour) → Lawful a → Lawful b → (ops : List Op) → AllCarried (joined a b ops)
 carried a b la lb [] = carried-append (a []) (b []) (la.carried []) (lb.carried [])
 carried a b la lb (Tick q ∷ ops) =

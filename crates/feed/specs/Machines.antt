@@ -21,18 +21,22 @@ pub record Steps {S : Type 0} (step : S → Op → S) (waits : S → List Waitin
   pub carried : (s : S) → Reached s → AllCarried (waits s)
 
 module _ {S : Type 0} (step : S → Op → S) (waits : S → List Waiting) (Reached : S → Type 0) (f : Steps step waits Reached) where
+  -- a tick keeps all that waited, after any operations
   ticked : (s : S) → Reached s → (ops : List Op) (r : ℕ) → Within (behaviour step waits s ops) (behaviour step waits s (ops ++ (Tick r ∷ [])))
   ticked s h [] r = f.ticked s r h
   ticked s h (o ∷ ops) r = ticked (step s o) (f.stays s o h) ops r
 
+  -- a next takes the first frame, after any operations
   nexted : (s : S) → Reached s → (ops : List Op) → behaviour step waits s (ops ++ (Next ∷ [])) ≡ rest (behaviour step waits s ops)
   nexted s h [] = f.nexted s h
   nexted s h (o ∷ ops) = nexted (step s o) (f.stays s o h) ops
 
+  -- a next with nothing waiting changes nothing, after any operations
   idle : (s : S) → Reached s → (ops more : List Op) → behaviour step waits s ops ≡ [] → behaviour step waits s (ops ++ (Next ∷ more)) ≡ behaviour step waits s (ops ++ more)
   idle s h [] more e = ap (λ t. waits (run step t more)) (f.idle s h e)
   idle s h (o ∷ ops) more e = idle (step s o) (f.stays s o h) ops more e
 
+  -- all that waits can be carried, after any operations
   carried : (s : S) → Reached s → (ops : List Op) → AllCarried (behaviour step waits s ops)
   carried s h [] = f.carried s h
   carried s h (o ∷ ops) = carried (step s o) (f.stays s o h) ops

@@ -16,19 +16,23 @@ changed f w = record { port = w.port; bytes = f.on w.port w.bytes }
 abbrev pub mapped : Map → Behaviour → Behaviour
 mapped f m = λ ops. map (changed f) (m ops)
 
+-- changed one by one, frames stand within others as they did
 within-map : (f : Map) {xs ys : List Waiting} → Within xs ys → Within (map (changed f) xs) (map (changed f) ys)
 within-map f within_none = within_none
 within-map f (within_more p) = within_more (within-map f p)
 within-map f (within_both p) = within_both (within-map f p)
 
+-- whether the first frame is left out before or after the change is the same
 rest-map : (f : Map) (xs : List Waiting) → map (changed f) (rest xs) ≡ rest (map (changed f) xs)
 rest-map f [] = refl
 rest-map f (x ∷ xs) = refl
 
+-- if nothing waits once frames are changed, nothing waited
 none-map : (f : Map) (xs : List Waiting) → map (changed f) xs ≡ [] → xs ≡ []
 none-map f [] e = refl
 none-map f (x ∷ xs) e = cc
 
+-- a frame that can be carried still can once it is changed
 carried-one : (f : Map) (w : Waiting) → Carried w → Carried (changed f w)
 carried-one f w c =
     let e = f.keeps w.port w.bytes in
@@ -36,6 +40,7 @@ carried-one f w c =
     let t : length w.bytes ≤ 1040 = c.few in
     record { line = c.line; some = omega (arith, e); few = omega (arith, e) }
 
+-- and so can all frames of a list
 carried-map : (f : Map) (xs : List Waiting) → AllCarried xs → AllCarried (map (changed f) xs)
 carried-map f [] c = tt
 carried-map f (x ∷ xs) c = (carried-one f x c.0, carried-map f xs c.1)

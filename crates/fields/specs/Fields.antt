@@ -3,7 +3,7 @@ use Rattle.std.specs.Prelude.{ℕ, ◌+◌, ◌*◌, ◌/◌, ◌%◌, Bool, con
 use Rattle.common.specs.declared.fault.Fault.{Fault}
 use Rattle.common.specs.declared.fault.Fault.TheVariants.{Buffer}
 
--- the number that stands in the 1, 2, 3, 4 or 8 bytes from i on
+-- the byte at i
 abbrev pub be8 : List ℕ → ℕ → ℕ
 be8 xs i = slice_index xs i
 
@@ -31,7 +31,7 @@ fits xs i n = nat_le (i + n) (length xs)
 abbrev pub field : List ℕ → ℕ → ℕ → ℕ → Option ℕ
 field xs i n v = cond (fits xs i n) (Some v) None
 
--- the bytes of a number
+-- the low 16 bits of a number as 2 bytes, the highest byte first
 abbrev pub bytes16 : ℕ → List ℕ
 bytes16 v = v / 256 % 256 ∷ v % 256 ∷ []
 
@@ -47,7 +47,7 @@ put xs i bs = take i xs ++ (bs ++ drop (i + length bs) xs)
 abbrev pub over : List ℕ → List ℕ → List ℕ
 over bs xs = bs ++ drop (length bs) xs
 
--- what a write of bs at i answers, and what it leaves: a buffer that is too short stays as it was
+-- what a write of bs at i answers: success, or that the buffer is too short
 abbrev pub wrote : List ℕ → ℕ → List ℕ → Result Unit Fault
 wrote xs i bs = cond (fits xs i (length bs)) (Ok tt) (Err Buffer)
 

@@ -9,7 +9,7 @@ use Rattle.plan.specs.Ports.{PortOf}
 abbrev pub place_in : List Station → ℕ → ℕ → Option ℕ
 place_in ss id k = position_from (λ s. s.id.0 == id) k ss
 
--- a port and a place in it
+-- port p and a place in it, if there is one, else what the ports behind it give
 abbrev pub at_port : ℕ → Option ℕ → Option (ℕ × ℕ) → Option (ℕ × ℕ)
 at_port p (Some k) rest = Some (p, k)
 at_port p None rest = rest

@@ -20,7 +20,7 @@ pub record PlanOf : Type 0 where
 abbrev pub begun : ℕ → ℕ → PlanOf
 begun id rate = record { id = id; rate = rate; ports = [] }
 
--- the plan's own code and rate, 1 to 120
+-- success if the plan's own code is not reserved and its rate is 1 to 120, else the refusal of the first that is not
 abbrev pub own : PlanOf → Result Unit Fault
 own p = cond (reserved p.id) (Err fault.IdCode) (cond (nat_le 1 p.rate && nat_le p.rate 120) (Ok tt) (Err fault.Rate))
 
@@ -43,11 +43,11 @@ abbrev pub full : List PortOf → PortOf → Bool
 full ps q =
     nat_le 16 (length ps) || (nat_lt 32 (station_count ps + length q.stations) || nat_lt 1024 (body_length ps + data_length q.stations))
 
--- the buffer holds 20 bytes, all parts and 4
+-- the buffer is too short for 20 bytes, all parts with those of one port more, and 4
 abbrev pub short : List PortOf → PortOf → ℕ → Bool
 short ps q room = nat_lt room (20 + parts_length ps + part_lengths q.stations + 4)
 
--- the port that was asked for, if the plan has room for it, and then the buffer
+-- the port that was asked for, if the plan and then the buffer have room for it, else the refusal
 abbrev pub placed : List PortOf → ℕ → Result PortOf Fault → Result PortOf Fault
 placed ps room (Ok q) = cond (full ps q) (Err fault.PlanFull) (cond (short ps q room) (Err fault.Buffer) (Ok q))
 placed ps room (Err e) = Err e
@@ -61,7 +61,7 @@ judged (Err e) p bytes room = Err e
 abbrev pub adds : PlanOf → List ℕ → ℕ → Result PortOf Fault
 adds p bytes room = judged (own p) p bytes room
 
--- what it answers: the next port's number
+-- what an add answers: the next port's number, or the refusal
 abbrev pub add_answer : PlanOf → Result PortOf Fault → Result ℕ Fault
 add_answer p (Ok q) = Ok (length p.ports)
 add_answer p (Err e) = Err e
@@ -71,7 +71,7 @@ abbrev pub numbered : Result Port Fault → Result ℕ Fault
 numbered (Ok n) = Ok n.0
 numbered (Err e) = Err e
 
--- the plan it leaves
+-- the plan that an add leaves: with one port more, or as it was
 abbrev pub add_plan : PlanOf → Result PortOf Fault → PlanOf
 add_plan p (Ok q) = record { id = p.id; rate = p.rate; ports = p.ports ++ q ∷ [] }
 add_plan p (Err e) = p
@@ -80,7 +80,7 @@ add_plan p (Err e) = p
 abbrev pub parts_in : List ℕ → List ℕ
 parts_in bytes = take (length bytes - 24) (drop 20 bytes)
 
--- the buffer it leaves: the frame's parts behind those of the earlier ports
+-- the buffer that an add leaves: the frame's parts behind those of the earlier ports, or as it was
 abbrev pub add_buffer : PlanOf → List ℕ → Result PortOf Fault → List ℕ → List ℕ
 add_buffer p bytes (Ok q) buffer = put buffer (20 + parts_length p.ports) (parts_in bytes)
 add_buffer p bytes (Err e) buffer = buffer

@@ -28,7 +28,7 @@ body_spans ps = spans_from 0 ps
 abbrev pub body_length : List PortOf → ℕ
 body_length ps = sum_by (λ p. data_length p.stations) ps
 
--- bytes of the station parts of a list of stations, and of all ports
+-- bytes of the parts that describe some stations, all together
 abbrev pub part_lengths : List Station → ℕ
 part_lengths ss = sum_by part_length ss
 

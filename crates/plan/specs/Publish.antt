@@ -14,7 +14,7 @@ use Rattle.plan.specs.Plans.{PlanOf}
 abbrev pub published_length : PlanOf → ℕ
 published_length p = 24 + parts_length p.ports
 
--- what publishing at a reading answers
+-- what publishing at a reading into a buffer of so many bytes answers: the length, or the first refusal that is due
 abbrev pub publishes : PlanOf → ℕ → ℕ → Result ℕ Fault
 publishes p reading room =
     cond (nat_lt room (published_length p)) (Err fault.Buffer)

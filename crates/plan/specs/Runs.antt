@@ -55,7 +55,7 @@ accepted s (c ∷ cs) = accepted_by s c ++ accepted (after_call s c) cs
 abbrev pub start : ℕ → ℕ → List ℕ → State
 start id rate buffer = record { plan = begun id rate; buffer = buffer }
 
--- the stations that a body describes, of at most so many
+-- the stations that a configuration's body describes, and none if it is refused
 abbrev pub stations_by : Result Says Fault → List Station
 stations_by (Ok s) = s.stations
 stations_by (Err e) = []

@@ -22,7 +22,7 @@ abbrev pub requested_by : Result Request Fault → Result PortOf Fault
 requested_by (Ok p) = Ok (port_of p.port)
 requested_by (Err e) = Err e
 
--- a test that passes lets the port through
+-- a port if a test passes, else the refusal of the test
 abbrev pub passing : Result Unit Fault → PortOf → Result PortOf Fault
 passing (Ok u) q = Ok q
 passing (Err e) q = Err e

@@ -21,11 +21,13 @@ abbrev pub Held : Queue → Type 0
 Held q = AllByRecursion Carries q.waiting × AllByRecursion Carries q.coming
 
 -- ---- the records of a capture are
+-- a frame of 1 to 1,040 bytes that is cut out of bytes which hold it has this length
 cut-length : {n : ℕ} (bs : List ℕ) → 1 ≤ n → n ≤ 1040 → 11 + n ≤ length bs → (1 ≤ length (take n (drop 11 bs))) × (length (take n (drop 11 bs)) ≤ 1040)
 cut-length {n} bs some few whole =
     let d = length-drop 11 bs in
     let l = length-take-le n (drop 11 bs) (omega (arith, d)) in (omega (arith, l), omega (arith, l))
 
+-- a feed can carry the frame of a whole record within its limits
 first_carries : (bs : List ℕ) → Sized 0 bs → Carries (entry_at bs)
 first_carries bs s =
     let l = cut-length bs s.some s.few s.whole in record { line = s.line; some = l.0; few = l.1 }
@@ -39,29 +41,35 @@ leading_carries (suc n) bs =
     (λ h. (first_carries bs (sized 0 bs h), leading_carries n (behind bs))) (λ h. tt)
 
 -- ---- the steps
+-- a step leaves a queue of records that can be carried
 stays : (q : Queue) (o : Op) → Held q → Held (step q o)
 stays q (Tick r) h =
     let n = due r q.coming in
     (All-append Carries q.waiting (take n q.coming) h.0 (All-take Carries n q.coming h.1), All-drop Carries n q.coming h.1)
 stays q Next h = (All-drop Carries 1 q.waiting h.0, h.1)
 
+-- a tick keeps all that waited, in its order
 ticked : (q : Queue) (r : ℕ) → Held q → Within (waits q) (waits (step q (Tick r)))
 ticked q r h =
     let more = take (due r q.coming) q.coming in
     rw (map-append frame_of q.waiting more) (within-before (map frame_of q.waiting) (map frame_of more))
 
+-- what waits without the first record is what waited without the first frame
 rest-waits : (es : List Entry) → map frame_of (drop 1 es) ≡ rest (map frame_of es)
 rest-waits [] = refl
 rest-waits (e ∷ es) = refl
 
+-- where nothing waits there is no record to take away
 none_gone : (es : List Entry) → map frame_of es ≡ [] → drop 1 es ≡ es
 none_gone [] h = refl
 none_gone (e ∷ es) h = cc
 
+-- the frames of records that can be carried can be carried
 all-carried : (es : List Entry) → AllByRecursion Carries es → AllCarried (map frame_of es)
 all-carried [] h = tt
 all-carried (e ∷ es) h = (h.0, all-carried es h.1)
 
+-- the steps of a queue are those of a lawful feed
 queue_steps : Steps step waits Held
 queue_steps =
     record {

@@ -28,10 +28,11 @@ untaken (Some c) = to_come c
 abbrev pub queue_of : Recorded → Queue
 queue_of s = parted (due_by s.latest (untaken s.records)) (untaken s.records)
 
--- it is the feed of a sound capture
+-- a feed is that of a sound capture
 abbrev pub sound_of : Recorded → Bool
 sound_of s = is_some s.records
 
+-- a feed can carry the frame of every record that is not yet taken
 untaken_carries : (o : Option Capture) → AllByRecursion Carries (untaken o)
 untaken_carries None = tt
 untaken_carries (Some c) = leading_carries (length c.rest.now) c.rest.now

@@ -25,19 +25,23 @@ led lines w = record { port = port_at lines w.port; bytes = w.bytes }
 abbrev pub all_led : List Outcome → Behaviour → Behaviour
 all_led lines m = λ ops. map (led lines) (m ops)
 
+-- led to their ports, frames stand within others as they did
 within-led : (lines : List Outcome) {xs ys : List Waiting} → Within xs ys → Within (map (led lines) xs) (map (led lines) ys)
 within-led lines within_none = within_none
 within-led lines (within_more p) = within_more (within-led lines p)
 within-led lines (within_both p) = within_both (within-led lines p)
 
+-- whether the first frame is left out before or after is the same
 rest-led : (lines : List Outcome) (xs : List Waiting) → map (led lines) (rest xs) ≡ rest (map (led lines) xs)
 rest-led lines [] = refl
 rest-led lines (x ∷ xs) = refl
 
+-- if nothing waits once lines are led to ports, nothing waited
 none-led : (lines : List Outcome) (xs : List Waiting) → map (led lines) xs ≡ [] → xs ≡ []
 none-led lines [] e = refl
 none-led lines (x ∷ xs) e = cc
 
+-- frames that can be carried still can once they are led to their ports
 carried-led : (lines : List Outcome) (xs : List Waiting) → AllCarried xs → AllCarried (map (led lines) xs)
 carried-led lines [] c = tt
 carried-led lines (x ∷ xs) c =

@@ -35,6 +35,7 @@ use single::play_single;
 use stack::play_stack;
 use std::process::ExitCode;
 
+// Reads the arguments and the capture, and plays it.
 fn run(rt: &HostRuntime) -> anyhow::Result<()> {
     let options = Options::read(rt)?;
     let bytes = read_capture(rt.alloc(), rt.stdin())?;

@@ -9,16 +9,19 @@ pub struct Present {
 }
 
 impl Present {
+    // No port.
     pub fn none() -> Present {
         Present { ports: [false; 16] }
     }
 
+    // Adds a port; a number above 15 is none.
     pub fn add(&mut self, port: Port) {
         if let Some(present) = self.ports.get_mut(usize::from(port.0)) {
             *present = true;
         }
     }
 
+    // Whether no port is here.
     pub fn is_none(&self) -> bool {
         !self.ports.contains(&true)
     }

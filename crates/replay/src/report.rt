@@ -40,6 +40,7 @@ pub struct Report<'a> {
 }
 
 impl<'a> Report<'a> {
+    // A report of a concentrator with this plan, before its first call.
     pub fn new(heap: Global, output: Output, source: Source<'a>, plan: &'a Plan) -> Report<'a> {
         Report {
             output,

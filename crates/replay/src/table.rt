@@ -11,6 +11,7 @@ pub struct Shown {
 }
 
 impl Shown {
+    // Counts slots as shown.
     fn count(&mut self, whose: Whose, slots: u64) {
         match whose {
             Whose::Own(_) => self.own = self.own.saturating_add(slots),
@@ -28,6 +29,7 @@ pub struct Table {
 }
 
 impl Table {
+    // A table with no slots yet.
     pub fn new(heap: Global) -> Table {
         Table {
             runs: Vec::new(heap),

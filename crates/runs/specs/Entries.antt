@@ -23,6 +23,7 @@ pub data EntryOf : Type 0 where
   counted : Result CountsOf Fault → EntryOf
 
 -- ---- the entry that is due: what the call answers by its contract, with the bytes that it leaves at the front of its buffer
+-- what a pull answers, with the frame that it left at the buffer's front
 abbrev pub front_by : List ℕ → Result Pulled Fault → Result PulledOf Fault
 front_by buffer (Ok x) = Ok (record { port = x.port.0; bytes = take x.len buffer; verdict = x.verdict })
 front_by buffer (Err f) = Err f
@@ -41,7 +42,7 @@ due w taking = taken (on.take_said w)
 due w (writing n room) = wrote n room (frame_by (on.frame_of w n) (on.write_said w n room))
 due w counting = counted (on.counts_said w)
 
--- what a list of calls answers, in order, and what it leaves
+-- the entries of a list of calls, in order, each made where the one before left the concentrator
 abbrev pub all_due : Whole → List Request → List EntryOf
 all_due w [] = []
 all_due w (r ∷ rs) = due w r ∷ all_due (leaves w r) rs

@@ -38,6 +38,7 @@ takes_room (call.Write n room) = true
 takes_room call.Counts = false
 
 -- ---- what an entry stands for
+-- what a pull answered, with its frame's bytes as a list
 abbrev pub pulled_by : Result PulledFrame Fault → Result PulledOf Fault
 pulled_by (Ok x) = Ok (record { port = x.port.0; bytes = x.frame.items; verdict = x.verdict })
 pulled_by (Err f) = Err f

@@ -16,22 +16,27 @@ pub record Opens (p : PlanOf) (closing : Closing) (bound reading : ℕ) : Type 0
   pub from : (t : ℕ) (a : Option ℕ) → t ≤ closing t a
   pub within : (t : ℕ) (a : Option ℕ) → closing t a ≤ t + bound
 
+-- where a check and those behind it gave no refusal, it did not fail, and those behind it gave none
 passed : (b : Bool) (f : Fault) (r : Option Fault) → cond b (Some f) r ≡ None → (b ≡ false) × (r ≡ None)
 passed true f r e = absurd (let z : ◌≡◌ {A = ℕ} 0 1 = cc in let n : ⊥ = omega arith in n)
 passed false f r e = (refl, e)
 
+-- where a last check gave no refusal, it holds
 held : (b : Bool) (f : Fault) → cond b None (Some f) ≡ None → b ≡ true
 held true f e = refl
 held false f e = absurd (let z : ◌≡◌ {A = ℕ} 0 1 = cc in let n : ⊥ = omega arith in n)
 
+-- where not even one of two holds, neither does
 neither : (a b : Bool) → (a || b) ≡ false → (a ≡ false) × (b ≡ false)
 neither true b e = absurd (let z : ◌≡◌ {A = ℕ} 0 1 = cc in let n : ⊥ = omega arith in n)
 neither false b e = (refl, e)
 
+-- if both hold, the first does
 left_true : (a b : Bool) → (a && b) ≡ true → a ≡ true
 left_true true b e = refl
 left_true false b e = e
 
+-- what is not 0 is above it
 some : (n : ℕ) → (n ≡ 0 → ⊥) → 0 < n
 some n h = omega (arith, h)
 

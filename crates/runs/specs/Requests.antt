@@ -22,7 +22,7 @@ call_of taking = Taking
 call_of (writing n room) = Writing n room
 call_of counting = Counting
 
--- what it leaves
+-- what a call leaves of the concentrator
 abbrev pub leaves : Whole → Request → Whole
 leaves w (ticking r scratch) = on.ticked w r scratch
 leaves w (admitting q bytes) = on.admitted w q bytes

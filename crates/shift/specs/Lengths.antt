@@ -10,15 +10,18 @@ use Rattle.shift.specs.Shifts.{stamped, target, shifted}
 pub length-put : (xs bs : List ℕ) (i : ℕ) → i + length bs ≤ length xs → length (put xs i bs) ≡ length xs
 length-put xs bs i h = simp (length-append, length-take, length-drop) (omega arith)
 
+-- bytes put anywhere leave the length as it was
 length-written : (xs bs : List ℕ) (i : ℕ) → length (written xs i bs) ≡ length xs
 length-written xs bs i =
     cond_both (fits xs i (length bs)) (put xs i bs) xs (λ ys. length ys ≡ length xs)
     (λ e. length-put xs bs i (leb-true (i + length bs) (length xs) e)) (λ e. refl)
 
+-- a fresh check word leaves the length of two bytes or more as it was
 length-resealed-long : (xs : List ℕ) → 2 ≤ length xs → length (sealed (take (length xs - 2) xs)) ≡ length xs
 unfolding sealed
 length-resealed-long xs h = simp (length-append, length-take) (omega arith)
 
+-- and so of any bytes
 length-resealed : (xs : List ℕ) → length (resealed xs) ≡ length xs
 length-resealed xs =
     cond_both (nat_lt (length xs) 2) xs (sealed (take (length xs - 2) xs)) (λ ys. length ys ≡ length xs)

@@ -45,7 +45,7 @@ abbrev pub nearest : ℕ → ℕ → ℕ → Option ℕ
 nearest x TB F =
     cond (TB == 0) None (cond (nat_lt (x % TB) F) (Some (x / TB)) (cond (nat_lt (TB - x % TB) F) (Some (x / TB + 1)) None))
 
--- a place from F on is in no second
+-- a place below F, or none: a place from F on is in no second
 abbrev pub in_second : ℕ → Option ℕ → Option ℕ
 in_second F (Some k) = then_some (nat_lt k F) k
 in_second F None = None

@@ -10,6 +10,7 @@ use Rattle.stacked.specs.Reaches.{Reached, later-reached}
 use Rattle.stacked.specs.Ready.{waits_within, waits_carried}
 use Rattle.stacked.specs.Writes.{lends_or_refuses, step_lends, step_refuses, first_waits, more_wait, written_reached}
 
+-- a step leads from a state that can be reached to one that can be
 stays : (w : Whole) (o : Op) → Reached w → Reached (step w o)
 stays w (Tick reading) r = later-reached (later_ticked w reading) r
 stays w Next r =
@@ -19,6 +20,7 @@ stays w Next r =
     ]
 
 module _ (port : ℕ) where
+  -- after a next the first frame that waited is gone
   nexted : (w : Whole) → Reached w → waits port (step w Next) ≡ rest (waits port w)
   nexted w r =
       elim (lends_or_refuses w r) [
@@ -26,6 +28,7 @@ module _ (port : ℕ) where
         | inr u ↦ ap (waits port) (step_refuses w r u) ∙ (u.empty port ∙ ap rest (sym (u.empty port)))
       ]
 
+  -- a next with nothing waiting changes nothing
   idle : (w : Whole) → Reached w → waits port w ≡ [] → step w Next ≡ w
   idle w r e =
       elim (lends_or_refuses w r) [
@@ -33,6 +36,7 @@ module _ (port : ℕ) where
         | inr u ↦ step_refuses w r u
       ]
 
+  -- the steps of a concentrator under another are those of a lawful feed
   steps : port ≤ 15 → Steps step (waits port) Reached
   steps line =
       record {

@@ -17,6 +17,7 @@ use Rattle.combined.specs.Frames.{block_bytes, body_from, quality_of, slot_tag, 
 pub record Wide (ps : List PortOf) (x : Blocks) : Type 0 where
   pub width : (p : ℕ) (b : Block) → p < length ps → x p ≡ Some b → length b.body ≡ width_of ps p
 
+-- a port's bytes in a frame are as many as its stations ask for
 block-length : (q : PortOf) (o : Option Block) → ((b : Block) → o ≡ Some b → length b.body ≡ data_length q.stations) → length (block_bytes q o) ≡ data_length q.stations
 block-length q (Some b) h = h b refl
 block-length q None h = length_blocks q.stations
@@ -25,6 +26,7 @@ block-length q None h = length_blocks q.stations
 abbrev WideFrom : List PortOf → Blocks → ℕ → Type 0
 WideFrom qs x k = (i : ℕ) (b : Block) → i < length qs → x (k + i) ≡ Some b → length b.body ≡ width_of qs i
 
+-- the ports' bytes together are as many as all stations ask for
 body-length : (qs : List PortOf) (x : Blocks) (k : ℕ) → WideFrom qs x k → length (body_from x qs k) ≡ body_length qs
 body-length [] x k h = refl
 body-length (q ∷ qs) x k h =
@@ -32,6 +34,7 @@ body-length (q ∷ qs) x k h =
     let others : length (body_from x qs (k + 1)) ≡ body_length qs = body-length qs x (k + 1) (λ i b l e. h (suc i) b (omega arith) (ap x (omega arith) ∙ e)) in
     omega (arith, first, others, length-append (block_bytes q (x k)) (body_from x qs (k + 1)), sum_by-cons (λ (p : PortOf). data_length p.stations) q qs)
 
+-- a header has 14 bytes
 header-length : (h : Header) → length (header_bytes h) ≡ 14
 header-length h = refl
 

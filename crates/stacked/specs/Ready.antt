@@ -27,10 +27,12 @@ module _ (port : ℕ) (g : Setting) where
       ap (λ (x : Blocks). record { port = port; bytes = slot_frame g.id g.rate g.ports n x } ∷ frames port g t (suc n) k) (h n (omega arith) (omega arith))
       ∙ ap (λ (ws : List Waiting). record { port = port; bytes = on.frame_of g s n } ∷ ws) others
 
+  -- no frames stand within any
   none_within : (ws : List Waiting) → Within [] ws
   none_within [] = within_none
   none_within (w ∷ ws) = within_more (none_within ws)
 
+  -- the frames of fewer slots stand within those of more
   more_frames : (s : Box) (k m n : ℕ) → k ≤ m → Within (frames port g s n k) (frames port g s n m)
   more_frames s zero m n h = none_within (frames port g s n m)
   more_frames s (suc k) zero n h = absurd (omega arith)
@@ -55,6 +57,7 @@ module _ (port : ℕ) (g : Setting) where
       (record { line = line; some = omega (arith, l); few = omega (arith, l) }, frames_carried s k (suc n) line narrow fits)
 
 module _ (port : ℕ) where
+  -- if frames stand within others where it is open, they do where it may be shut
   within-shut : (o : Option Fault) (xs ys : List Waiting) → Within xs ys → Within (on.if_open o [] xs) (on.if_open o [] ys)
   within-shut (Some f) xs ys h = within_none
   within-shut None xs ys h = h
@@ -66,6 +69,7 @@ module _ (port : ℕ) where
       (subst (λ (g : Setting). Within (waits port w) (on.if_open w.shut [] (ready port g v.box))) (sym l.setting)
       (within-shut w.shut _ _ (ready_within port w.setting w.box v.box l.slots)))
 
+  -- if frames can be carried where it is open, they can where it may be shut
   carried-shut : (o : Option Fault) (xs : List Waiting) → AllCarried xs → AllCarried (on.if_open o [] xs)
   carried-shut (Some f) xs h = tt
   carried-shut None xs h = h

@@ -25,6 +25,7 @@ use Rattle.stacked.specs.Lawfulness.{stacked-lawful}
 
 -- ---- what a cell holds of a port is as wide as the port's bodies
 module _ (ps : List PortOf) (narrow : body_length ps ≤ 1024) where
+  -- what a cell holds of a port, if it is present, is as wide as the port's bodies
   by-presence : (c : Cell) (t : Bool) (p quality : ℕ) (b : Block) → p < length ps → cond t (Some (record { quality = quality; body = take (width_of ps p) (drop (start_of ps p) c.body) })) None ≡ Some b → length b.body ≡ width_of ps p
   by-presence c true p quality b l e =
       let is : ◌≡◌ {A = Block} (record { quality = quality; body = take (width_of ps p) (drop (start_of ps p) c.body) }) b = cc in
@@ -35,13 +36,16 @@ module _ (ps : List PortOf) (narrow : body_length ps ≤ 1024) where
       omega (arith, cut, ap (λ (y : Block). length y.body) is)
   by-presence c false p quality b l e = cc
 
+  -- so it is with all that a cell holds, if there is one
   by-cell : (o : Option Cell) → Wide ps (blocks_by ps o)
   by-cell (Some c) = record { width = λ p b l e. by-presence c (present_in c p) p (quality_in c p) b l e }
   by-cell None = record { width = λ p b l e. cc }
 
+  -- and with all that the ring holds
   held-fits : (ring : List Cell) (o : ℕ) → Fits ps (held_in ps ring o)
   held-fits ring o = record { slot = λ n. by-cell (cell_in ring o n) }
 
+-- the bodies of an engine's ports have at most 1,024 bytes together
 narrow : (e : Engine) → body_length (ports_of e.terms.plan.table) ≤ 1024
 narrow e = let l = e.terms.plan.narrow in let m = e.terms.plan.measured in omega (arith, l, m)
 

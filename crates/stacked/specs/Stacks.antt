@@ -14,7 +14,7 @@ use Rattle.concentrator.specs.Calls as call
 abbrev pub pulled : Whole → Whole
 pulled w = on.if_open w.shut w (cond (on.exhausted w.box) w (call.took_first w (w.feed [])))
 
--- so many pulls
+-- what is left after so many pulls
 abbrev pub pulls : ℕ → Whole → Whole
 pulls zero w = w
 pulls (suc n) w = pulls n (pulled w)
@@ -23,7 +23,7 @@ pulls (suc n) w = pulls n (pulled w)
 abbrev pub drained : Whole → Whole
 drained w = pulls (length (w.feed [])) w
 
--- ticked and then drained, unless the tick is refused
+-- what a tick leaves, by what it answers: ticked and then drained, or as it was if it is refused
 abbrev pub drained_by : Whole → Result ℕ Fault → Whole
 drained_by w (Ok l) = drained (call.ticked_by w (Ok l))
 drained_by w (Err e) = w
@@ -32,7 +32,8 @@ drained_by w (Err e) = w
 abbrev pub ticked : Whole → ℕ → Whole
 ticked w reading = on.if_open w.shut w (drained_by w (on.tick_said w.box reading))
 
--- ---- a next: the oldest closed slot is taken and written, to a buffer of 1,040 bytes; one that finds none changes nothing
+-- ---- a next
+-- what a next leaves, by what a take answers: the oldest closed slot is taken and written, to a buffer of 1,040 bytes; where there is none nothing has changed
 abbrev pub wrote_by : Whole → Result ℕ Fault → Whole
 wrote_by w (Ok n) = call.wrote (call.lent w) n 1040
 wrote_by w (Err e) = w

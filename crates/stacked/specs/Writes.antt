@@ -20,7 +20,7 @@ use Rattle.stacked.specs.Ready.{same_frames}
 abbrev pub oldest_of : Whole → ℕ
 oldest_of w = oldest w.setting w.box
 
--- with the oldest slot lent, and with it written
+-- what is left once the oldest slot is lent
 abbrev pub lent : Whole → Whole
 lent w = moved w (on.with_ticket w.box (Some (oldest_of w))) w.feed
 
@@ -35,7 +35,7 @@ pub record Lends (w : Whole) : Type 0 where
   pub said : call.take_said w ≡ Ok (oldest_of w)
   pub left : call.lent w ≡ lent w
 
--- none is
+-- no slot is closed and unwritten: nothing waits, and a take is refused and changes nothing
 pub record Refuses (w : Whole) : Type 0 where
   pub empty : (port : ℕ) → waits port w ≡ []
   pub fault : Fault
@@ -74,6 +74,7 @@ module _ (w : Whole) (r : Reached w) where
   write-said n h l = rw (l.opened, eq-eqb (oldest_of w) (oldest_of w) refl, room n h)
 
   -- ---- the machine's step
+  -- where a slot is closed and unwritten a next leaves it written
   pub step_lends : Lends w → step w Next ≡ written w
   step_lends l =
       ap (wrote_by w) l.said
@@ -84,6 +85,7 @@ module _ (w : Whole) (r : Reached w) where
   step_refuses u = ap (wrote_by w) u.said
 
   -- ---- what waits, with a slot that is closed and unwritten
+  -- the frames of the closed slots behind the oldest one
   abbrev pub more : ℕ → List Waiting
   more port = frames port w.setting w.box (suc (oldest_of w)) (w.box.front - suc (oldest_of w))
 
@@ -105,6 +107,7 @@ module _ (w : Whole) (r : Reached w) where
       (λ j low high. fun_ext (λ p. rw (ne_eqb o j (λ e. omega arith)))))
 
   -- ---- the written state is one that can be reached
+  -- what is held once something is cleared was held before
   cleared-fits : (b : Bool) (held : Option Block) (x : Block) → cond b None held ≡ Some x → held ≡ Some x
   cleared-fits true held x e = cc
   cleared-fits false held x e = e

@@ -15,7 +15,7 @@ use Rattle.wire.specs.declared.frame.Frame.{Frame}
 use Rattle.wire.specs.declared.frame.Frame.TheVariants as frame
 use Rattle.wire.specs.Headers.{header_of, header_bytes}
 
--- a frame with its body
+-- what a frame is told apart as: data, configuration 2 or another, each with its body
 pub data Told : Type 0 where
   of_data : List ℕ → Told
   of_config2 : List ℕ → Told
@@ -64,14 +64,14 @@ abbrev pub answered_behind : Result (Header × Frame) Fault → Result Told Faul
 answered_behind (Ok x) = Ok (seen x.1)
 answered_behind (Err e) = Err e
 
--- the body of a data frame
+-- the body of a data frame; another frame is of a type that is not due, and a refusal stays
 abbrev pub data_body_of : Result Told Fault → Result (List ℕ) Fault
 data_body_of (Ok (of_data b)) = Ok b
 data_body_of (Ok (of_config2 b)) = Err fault.FrameType
 data_body_of (Ok (of_other b)) = Err fault.FrameType
 data_body_of (Err e) = Err e
 
--- the body of a configuration 2
+-- the body of a configuration 2; another frame is of a type that is not due, and a refusal stays
 abbrev pub config_body_of : Result Told Fault → Result (List ℕ) Fault
 config_body_of (Ok (of_data b)) = Err fault.FrameType
 config_body_of (Ok (of_config2 b)) = Ok b
@@ -105,7 +105,7 @@ wrote_frame out body =
     cond (nat_lt 65519 (length body)) (Err fault.FrameSize)
     (cond (nat_lt (length out) (16 + length body)) (Err fault.Buffer) (Ok (16 + length body)))
 
--- what it leaves: the frame at the buffer's front, or the buffer as it was
+-- what a buffer holds after a call that answered a length or a refusal: the bytes bs at its front, or what it held before
 abbrev pub left_by : Result ℕ Fault → List ℕ → List ℕ → List ℕ
 left_by (Ok n) bs out = over bs out
 left_by (Err e) bs out = out
