@@ -1,7 +1,8 @@
 use capture::Record;
 use common::Port;
 
-// A call on a concentrator. A write takes the ticket first.
+// A call on a concentrator. A write takes the ticket first. Not `runs::Call`: a call of a load has no
+// room and no ticket's number.
 #[derive(Clone, Copy)]
 pub enum Call<'a> {
     Tick(u64),
@@ -19,10 +20,10 @@ pub enum Kind {
     Write = 3,
 }
 
-impl<'a> Call<'a> {
-    // The call that a record stands for: one letter for a tick with its reading, a pull or a write;
-    // and any other frame is admitted.
-    pub fn of(record: Record<'a>) -> Call<'a> {
+// The call that a record stands for: one letter for a tick with its reading, a pull or a write;
+// and any other frame is admitted.
+impl<'a> From<Record<'a>> for Call<'a> {
+    fn from(record: Record<'a>) -> Call<'a> {
         match record.frame {
             b"t" => Call::Tick(record.reading),
             b"p" => Call::Pull,
@@ -30,7 +31,9 @@ impl<'a> Call<'a> {
             frame => Call::Admit(record.port, frame),
         }
     }
+}
 
+impl Call<'_> {
     // The kind that the call is of.
     pub fn kind(self) -> Kind {
         match self {

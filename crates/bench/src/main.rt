@@ -22,6 +22,7 @@ fn run(rt: &HostRuntime) -> anyhow::Result<()> {
     output.show(rt, &mut hub, load.calls)
 }
 
+// As `listing` has it: a crate for one function of six lines would be no plainer.
 fn main(rt: HostRuntime) -> ExitCode {
     let Err(trouble) = run(&rt) else {
         return ExitCode::SUCCESS;

@@ -17,6 +17,7 @@ struct Cost {
 pub struct Meter {
     kind: Kind,
     since: Instant,
+    // by the kind's number: an array needs no heap
     costs: [Cost; KINDS],
 }
 
@@ -56,6 +57,7 @@ impl Meter {
 
     // Prints a line for each kind: how many calls, and how many nanoseconds they took.
     pub fn print(&self, rt: &HostRuntime) -> io::Result<()> {
+        // no derive lists the cases of an enum, so they stand once, with their names
         for (kind, name) in [
             (Kind::Tick, "tick"),
             (Kind::Admit, "admit"),

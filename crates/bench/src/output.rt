@@ -9,6 +9,7 @@ use std::env;
 use std::io::Write;
 
 // What is printed: counts and a sum over all answers and written frames, the written frames, or times.
+// Chosen by a word, and asked for once.
 #[derive(Clone, Copy)]
 pub enum Output {
     Sum,
@@ -18,11 +19,12 @@ pub enum Output {
 
 // Prints the counts of a concentrator on which the calls were made, and the sum over the number of each
 // answer and the bytes that were written for each slot.
+// A struct of handle, concentrator and calls would be taken apart in each of the three.
 fn show_sum(rt: &HostRuntime, hub: &mut Hub, calls: Capture) -> anyhow::Result<()> {
     let mut buffer = [0; LONGEST_FRAME];
     let mut sum = Sum::NONE;
     for record in calls {
-        let answer = make(hub, Call::of(record), &mut buffer);
+        let answer = make(hub, Call::from(record), &mut buffer);
         sum = sum.with(verdict_number(answer));
         if let Ok(len) = answer {
             sum = sum.with_all(&buffer[..len]);
@@ -44,7 +46,7 @@ fn show_bytes(rt: &HostRuntime, hub: &mut Hub, calls: Capture) -> anyhow::Result
     let mut out = rt.stdout();
     let mut buffer = [0; LONGEST_FRAME];
     for record in calls {
-        if let Ok(len) = make(hub, Call::of(record), &mut buffer) {
+        if let Ok(len) = make(hub, Call::from(record), &mut buffer) {
             out.write_all(&buffer[..len])?;
         }
     }
@@ -56,7 +58,7 @@ fn show_times(rt: &HostRuntime, hub: &mut Hub, calls: Capture) -> anyhow::Result
     let mut buffer = [0; LONGEST_FRAME];
     let mut meter = Meter::start(rt)?;
     for record in calls {
-        let call = Call::of(record);
+        let call = Call::from(record);
         meter.count(rt, call.kind())?;
         // what is answered is for `show_sum` to tell
         let _ = make(hub, call, &mut buffer);

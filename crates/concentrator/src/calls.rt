@@ -1,7 +1,7 @@
 ghost use Rattle.concentrator.specs.Calls.{admit_said, admitted, frame_of, length_by, lent, number_by, pull_buffer, pull_said, pulled as pulled_to, take_said, tick_said, ticked, write_said, wrote};
 ghost use Rattle.concentrator.specs.Wholes.{whole};
 ghost use Rattle.std.specs.Prelude.{◌≡◌, ◌≤◌, length, IfOk, OnErr};
-ghost use Rattle.wire.specs.Frames.{left_by};
+ghost use Rattle.fields.specs.Fields.{left_by};
 
 use crate::concentrator::Concentrator;
 use crate::ticket::Ticket;

@@ -12,6 +12,7 @@ use policy::Policy;
 
 impl<F: Feed, P: Policy> Concentrator<F, P> {
     // Opens a concentrator; against a refusal it is shut, and every call answers that refusal.
+    // Four arguments, which hosts hand on: a struct of them would be put together for one call.
     pub fn open(plan: &Plan, feed: F, policy: P, reading: u64) -> Concentrator<F, P>
         ensures shut { (whole result).shut ≡ open_fault (plan_of plan.now) (P.bound policy) reading }
         ensures opens { (whole result).shut ≡ None → whole result ≡ begins (plan_of plan.now) reading (P.closing policy) (F.meaning feed).waits }

@@ -20,7 +20,8 @@ pub enum Answer<'a> {
 }
 
 impl Answer<'_> {
-    // What the call of an entry answered.
+    // What the call of an entry answered. No `TryFrom`: an `Err` is what the call answered, and no failed
+    // conversion.
     pub fn of(entry: Entry) -> Result<Answer<'static>, Fault> {
         Ok(match entry {
             Entry::Tick { answer, .. } | Entry::Admit { answer, .. } => {

@@ -43,7 +43,8 @@ impl<'a> Session<'a> {
         Ok(Answer::Done)
     }
 
-    // Makes a call on the box, and answers from its entry.
+    // Makes a call on the box, and answers from its entry. By `run`, whose promise is of all calls that were
+    // made by it. A result stands in a result, as `?` would take the outer one alone.
     fn on_box(&mut self, call: runs::Call) -> Result<Result<Answer<'static>, Trouble>, AllocError> {
         let Some(host) = &mut self.opened else {
             return Ok(Err(Trouble::NoBox));

@@ -72,6 +72,7 @@ impl Pending {
 }
 
 // The check word of `bytes`. Byte by byte, and four of them in each turn of the loop.
+// As one `fold` it was tried, and took a third more instructions.
 pub fn check_word(bytes: &[u8]) -> u16
     ensures { result ≡ check_word_of bytes.now }
 {

@@ -54,3 +54,8 @@ wrote xs i bs = cond (fits xs i (length bs)) (Ok tt) (Err Buffer)
 -- what a write of bs at i leaves: the bytes in their place, or the buffer as it was if it is too short
 abbrev pub written : List ℕ → ℕ → List ℕ → List ℕ
 written xs i bs = cond (fits xs i (length bs)) (put xs i bs) xs
+
+-- what a buffer holds after a call that answered a length or a refusal: the bytes bs at its front, or what it held before
+abbrev pub left_by : Result ℕ Fault → List ℕ → List ℕ → List ℕ
+left_by (Ok n) bs out = over bs out
+left_by (Err e) bs out = out

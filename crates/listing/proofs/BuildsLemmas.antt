@@ -7,7 +7,7 @@ use Rattle.capture.specs.declared.record.Record.{Record}
 use Rattle.listing.specs.declared.build.Outcome.{Outcome}
 use Rattle.listing.specs.Lines.{first_config, first_rate, is_used}
 use Rattle.common.specs.declared.fault.Fault.{Fault}
-use Rattle.wire.specs.Frames.{left_by}
+use Rattle.fields.specs.Fields.{left_by}
 use Rattle.plan.specs.Publish.{publishes, published_frame}
 use Rattle.listing.specs.Builds.{front_by, published, blank, begun, after_line, after_lines, outcome_of, outcomes}
 

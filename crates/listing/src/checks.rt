@@ -8,6 +8,6 @@ use wire::{Frame, Header};
 pub fn judge(bytes: &[u8]) -> Result<Header, Fault>
     ensures { result ≡ judged bytes.now }
 {
-    let _frame = Frame::read(bytes)?;
-    Header::read(bytes)
+    let (header, _) = Frame::read_headed(bytes)?;
+    Ok(header)
 }

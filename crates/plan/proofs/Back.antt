@@ -4,9 +4,9 @@ use Rattle.std.specs.List.{flat_map}
 use Rattle.std.proofs.lemmas.List.{get_or_at, get_or-append-add, take_at}
 use Rattle.common.specs.declared.fault.Fault.TheVariants as fault
 use Rattle.common.specs.Ids.{reserved}
-use Rattle.fields.specs.Fields.{be16, bytes16, bytes32}
+use Rattle.fields.specs.Fields.{be16, bytes16, bytes32, left_by}
 use Rattle.wire.specs.Headers.{header_of}
-use Rattle.wire.specs.Frames.{of_config2, classified, body_of, left_by, sealed}
+use Rattle.wire.specs.Frames.{of_config2, classified, body_of, sealed}
 use Rattle.wire.specs.Laws.{Fits}
 use Rattle.wire.proofs.Again.{told-again}
 use Rattle.config.specs.declared.station.Station.{Station}

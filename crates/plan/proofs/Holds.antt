@@ -4,8 +4,7 @@ use Rattle.std.specs.List.{flat_map}
 use Rattle.std.proofs.lemmas.List.{append-nil, flat_map_more}
 use Rattle.std.proofs.lemmas.List.Sums.{sum_by_push}
 use Rattle.common.specs.declared.fault.Fault.{Fault}
-use Rattle.fields.specs.Fields.{put}
-use Rattle.wire.specs.Frames.{left_by}
+use Rattle.fields.specs.Fields.{put, left_by}
 use Rattle.config.specs.Stations.{stations_in}
 use Rattle.config.proofs.Joins.{stations_join}
 use Rattle.layout.specs.Blocks.{data_length}

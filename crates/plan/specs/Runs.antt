@@ -1,9 +1,10 @@
 -- Lists of adds and publishes on one plan and one buffer, from the beginning of the plan.
+use Rattle.fields.specs.Fields.{left_by}
 use Rattle.std.specs.Prelude.{ℕ, List, [], ◌∷◌, ◌++◌, length, Ok, Err, Result}
 use Rattle.common.specs.declared.fault.Fault.{Fault}
 use Rattle.config.specs.declared.station.Station.{Station}
 use Rattle.config.specs.Configs.{Says, configured}
-use Rattle.wire.specs.Frames.{left_by, body_of}
+use Rattle.wire.specs.Frames.{body_of}
 use Rattle.plan.specs.Ports.{PortOf}
 use Rattle.plan.specs.Plans.{PlanOf, begun, adds, add_plan, add_buffer}
 use Rattle.plan.specs.Publish.{publishes, published_frame}

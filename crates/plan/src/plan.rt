@@ -15,7 +15,8 @@ pub(crate) const BEHIND_PARTS: usize = 4;
 
 // The combined code, the rate in frames per second, and the ports with the place and length of each one's
 // data body, which are kept so that no frame has to work them out, and three sums over them: of stations,
-// of bytes of data body, and of bytes of station parts.
+// of bytes of data body, and of bytes of station parts. The places stand in a list of their own: a record is
+// a plain struct that anyone can make of any parts, so it cannot keep a length that has to fit.
 // No `impl Model`: a view of the ports forgets the table's filler, and so `Copy` would be lost.
 // The three sums have no struct of their own: only `bounded` joins them, and a struct would put a name
 // more before each.

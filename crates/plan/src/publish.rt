@@ -1,9 +1,8 @@
 ghost use Rattle.std.specs.Prelude.{◌≡◌, ◌+◌, ◌≤◌, length};
-ghost use Rattle.fields.specs.Fields.{over};
+ghost use Rattle.fields.specs.Fields.{over, left_by};
 ghost use Rattle.plan.specs.Laws.{ReadsBack};
 ghost use Rattle.plan.specs.Publish.{published_frame, published_length, publishes};
 ghost use Rattle.plan.specs.Views.{plan_of};
-ghost use Rattle.wire.specs.Frames.{left_by};
 
 use crate::plan::{BEHIND_PARTS, PARTS_AT, Plan};
 use common::{Fault, LAST_READING};

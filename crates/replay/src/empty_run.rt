@@ -10,7 +10,7 @@ pub struct EmptyRun {
 }
 
 impl EmptyRun {
-    // The run that a line begins.
+    // The run that a line begins. No `From`: a line begins a run, and is no run in another form.
     pub fn of(line: SlotLine) -> EmptyRun {
         EmptyRun {
             first: line,

@@ -19,6 +19,7 @@ impl fmt::Display for HexLine<'_> {
 
 // Prints the combined configuration in full.
 pub fn print_combined(rt: &impl Print, build: &Build) -> anyhow::Result<()> {
+    // by a `match`: `as_deref` lends the refusal too, which has to be copied in a closure
     match &build.combined {
         Ok(frame) => {
             let hex = HexLine(frame.as_slice());

@@ -42,6 +42,7 @@ impl Lower {
 
     // The combined configuration that the box publishes.
     pub fn configuration(&self) -> anyhow::Result<&[u8]> {
+        // by a `match`: `as_deref` lends the refusal too, which has to be copied in a closure
         match &self.build.combined {
             Ok(frame) => Ok(frame.as_slice()),
             Err(fault) => Err(*fault).context("a lower box has no configuration"),

@@ -14,6 +14,7 @@ pub enum Output {
 }
 
 // What the capture is played through: one concentrator, or two of them under a third.
+// Chosen by a word, and asked for once.
 #[derive(Clone, Copy)]
 pub enum Form {
     Single,

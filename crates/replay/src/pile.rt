@@ -45,6 +45,7 @@ fn build_upper(heap: Global, first: &Lower, second: &Lower, reading: u64) -> any
         },
     ];
     let upper = Build::of(heap, &published, COMBINED)?;
+    // a loop: a `find_map` would have the same `match` in a closure
     for outcome in upper.lines.as_slice() {
         if let Outcome::Refused(fault) = outcome {
             return Err(*fault).context("the configuration of a lower box is refused above");

@@ -129,7 +129,8 @@ impl<'a, F: Feed> Player<'a, F> {
         self.tick_up_to(rt, self.clock.saturating_add(rest))
     }
 
-    // Asks for the counts, and pulls once more: a frame that comes then was still waiting.
+    // Asks for the counts, and pulls once more: a frame that comes then was still waiting. In one run: by two
+    // calls each entry would be taken apart by a let-else of its own.
     fn account(&mut self, rt: &impl Print) -> anyhow::Result<()> {
         let room = LONGEST_FRAME;
         let mut counted = None;
@@ -144,9 +145,7 @@ impl<'a, F: Feed> Player<'a, F> {
                 _ => {}
             }
         }
-        let Some(counts) = counted else {
-            bail!("nothing was counted");
-        };
+        let counts = counted.context("nothing was counted")?;
         self.report.account(rt, counts, waits)
     }
 

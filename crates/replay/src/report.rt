@@ -17,7 +17,8 @@ use runs::PulledFrame;
 use std::alloc::Global;
 use std::collections::BTreeMap;
 
-// Where the frames come from that a concentrator pulls.
+// Where the frames come from that a concentrator pulls. An own enum, since a `None` would not say that boxes
+// stand below; a trait for the two would have two methods of a line or two in each.
 #[derive(Clone, Copy)]
 pub enum Source<'a> {
     // The records of a capture, in their order.
@@ -29,12 +30,13 @@ pub enum Source<'a> {
 // Prints what a concentrator takes and writes.
 #[derive(Drop)]
 pub struct Report<'a> {
+    // asked for in six methods: of a trait with two printers, four would do nothing for the dump
     output: Output,
     source: Source<'a>,
     plan: &'a Plan,
     // the ports with an accepted frame, by slots that are not written yet
     accepted: BTreeMap<u64, Present>,
-    // how many frames are pulled
+    // how many frames are pulled; counted, since the number is printed, and a record is found by it
     pulled: usize,
     table: Table,
 }
@@ -87,7 +89,8 @@ impl<'a> Report<'a> {
         Ok(())
     }
 
-    // A line of the table for a slot; an empty one is put off.
+    // A line of the table for a slot; an empty one is put off. By a flag, as two callers find it out in two ways,
+    // and one `if` serves both.
     fn show(
         &mut self,
         rt: &impl Print,

@@ -8,7 +8,8 @@ use capture::Record;
 use listing::{Build, show_capture, show_combined};
 use recorded::Recorded;
 
-// Shows what the records make, and plays them through one concentrator.
+// Shows what the records make, and plays them through one concentrator. Apart from the play through a stack:
+// plan, feed, pace and what is shown differ.
 pub fn play_single(
     rt: &HostRuntime,
     options: Options,

@@ -33,7 +33,8 @@ fn show_boxes(rt: &impl Print, pile: &Pile, wait: u64) -> io::Result<()> {
     show_combined(rt, &pile.upper)
 }
 
-// Shows what the records make, and plays them through two boxes under a third.
+// Shows what the records make, and plays them through two boxes under a third. Apart from the play through
+// one box: plan, feed, pace and what is shown differ.
 pub fn play_stack(
     rt: &HostRuntime,
     options: Options,

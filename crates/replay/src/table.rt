@@ -49,10 +49,13 @@ impl Table {
 
     // Puts off an empty slot, with those that it follows.
     pub fn put_off(&mut self, line: SlotLine) -> anyhow::Result<()> {
-        for run in self.runs.as_mut_slice() {
-            if run.take(line) {
-                return Ok(());
-            }
+        if self
+            .runs
+            .as_mut_slice()
+            .iter_mut()
+            .any(|run| run.take(line))
+        {
+            return Ok(());
         }
         self.runs.push(EmptyRun::of(line))?;
         Ok(())

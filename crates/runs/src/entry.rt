@@ -1,7 +1,8 @@
 use common::{Fault, Port};
 use concentrator::Counts;
 
-// A frame that was pulled: its line, its bytes, and what became of it.
+// A frame that was pulled: its line, its bytes, and what became of it. With the bytes, where `Pulled` has
+// their number in a lent buffer.
 #[derive(Drop)]
 pub struct PulledFrame {
     pub port: Port,
@@ -10,7 +11,8 @@ pub struct PulledFrame {
 }
 
 // A line of a journal: a call with what it answered. A frame that the call left in its buffer stands
-// in the answer, in full.
+// in the answer, in full. Each case has its call's fields: a struct of call and answer could have another
+// call's answer.
 #[derive(Drop)]
 pub enum Entry<'a> {
     Tick {

@@ -18,24 +18,23 @@ use policy::Policy;
 use std::alloc::{AllocError, Global};
 
 impl<F: Feed, P: Policy> Host<F, P> {
-    // Pulls into a new buffer.
+    // Pulls into a new buffer. That without memory nothing changes stands in each: an invariant speaks of one
+    // state.
     fn pull(&mut self, heap: Global, room: usize) -> Result<Result<PulledFrame, Fault>, AllocError>
         ensures answer { IfOk result (λ a. pulled_by a ≡ front_by (pull_buffer (standing self.old) (replicate room 0)) (pull_said (standing self.old) (replicate room 0))) }
         ensures next { IfOk result (λ a. standing self.new ≡ pulled (standing self.old) (replicate room 0)) }
         ensures err { OnErr result (standing self.new ≡ standing self.old) }
     {
         let mut frame = vec![in heap; 0; room]?;
-        match self.concentrator.pull(&mut frame) {
-            Ok(pulled) => {
-                frame.truncate(pulled.len);
-                Ok(Ok(PulledFrame {
-                    port: pulled.port,
-                    frame,
-                    verdict: pulled.verdict,
-                }))
+        let pulled = self.concentrator.pull(&mut frame);
+        Ok(pulled.map(|pulled| {
+            frame.truncate(pulled.len);
+            PulledFrame {
+                port: pulled.port,
+                frame,
+                verdict: pulled.verdict,
             }
-            Err(fault) => Ok(Err(fault)),
-        }
+        }))
     }
 
     // Takes a ticket, and holds it.
@@ -55,7 +54,9 @@ impl<F: Feed, P: Policy> Host<F, P> {
         }
     }
 
-    // Writes into a new buffer, with the ticket that is held if it has the number, else with a new one.
+    // Writes into a new buffer, with the ticket that is held if it has the number, else with a new one. Apart
+    // from `pull`: one function for both would take the call as a closure, and promise in terms of the
+    // closure's promise.
     fn write(
         &mut self,
         heap: Global,
@@ -68,13 +69,11 @@ impl<F: Feed, P: Policy> Host<F, P> {
     {
         let mut frame = vec![in heap; 0; room]?;
         let ticket = ticket_for(&mut self.ticket, number);
-        match self.concentrator.write(ticket, &mut frame) {
-            Ok(written) => {
-                frame.truncate(written.len);
-                Ok(Ok(frame))
-            }
-            Err(fault) => Ok(Err(fault)),
-        }
+        let written = self.concentrator.write(ticket, &mut frame);
+        Ok(written.map(|written| {
+            frame.truncate(written.len);
+            frame
+        }))
     }
 
     // Makes the call on the concentrator, in a new buffer where it is lent one.

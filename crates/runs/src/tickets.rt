@@ -8,13 +8,6 @@ pub(crate) fn ticket_for(held: &mut Option<Ticket>, number: u64) -> Ticket
     ensures number { result.number ≡ number }
     ensures left { number_held held.new ≡ held_after (number_held held.old) number }
 {
-    if held
-        .as_ref()
-        .is_some_and(|ticket| ticket.number() == number)
-        && let Some(ticket) = held.take()
-    {
-        ticket
-    } else {
-        Ticket::of(number)
-    }
+    held.take_if(|ticket| ticket.number() == number)
+        .unwrap_or_else(|| Ticket::of(number))
 }

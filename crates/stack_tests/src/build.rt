@@ -42,7 +42,8 @@ pub(crate) fn lower<'a>(port: u8, plan: &Plan, capture: &'a [u8]) -> Lower<'a> {
     )
 }
 
-// A capture of these records: the reading, the port and the frame of each.
+// A capture of these records: the reading, the port and the frame of each. Beside that of `feed_tests`, where a
+// frame is one byte and not hexadecimal text.
 pub(crate) fn recording(heap: Global, records: &[(u64, u8, &str)]) -> Result<Recording, Fail> {
     let mut built = Recording::new(heap)?;
     for (reading, port, frame) in records {

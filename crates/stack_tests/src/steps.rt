@@ -19,7 +19,8 @@ pub(crate) fn check_text<F: Feed>(
     Ok(check_next(feed, port, frame.as_slice())?)
 }
 
-// A tick with this reading, then the frame that is next, if one is, and no other.
+// A tick with this reading, then the frame that is next, if one is, and no other. Beside that of `feed_tests`,
+// where a frame is one byte and not hexadecimal text.
 pub(crate) type Step<'a> = (u64, Option<&'a str>);
 
 pub(crate) fn check_steps<F: Feed>(
@@ -45,6 +46,7 @@ pub(crate) fn advance<F: Feed>(
 ) -> Result<u32, Fault> {
     let mut buffer = [0; 1040];
     upper.tick(reading, &mut buffer)?;
+    // counted: a `while` has to be proved to end
     for accepted in 0..10 {
         match upper.pull(&mut buffer) {
             Ok(pulled) => pulled.verdict?,

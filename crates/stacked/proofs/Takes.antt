@@ -1,9 +1,8 @@
 -- A take, and the write after it, as one step of the machine.
-use Rattle.std.proofs.Common.{◌≡◌, ℕ, ◌≤◌, false, List, length, Ok, Err, Result, sym, ap, ◌∙◌, subst, inl, inr, ltb-false}
+use Rattle.std.proofs.Common.{is_ok, ◌≡◌, ℕ, ◌≤◌, false, List, length, Ok, Err, Result, sym, ap, ◌∙◌, subst, inl, inr, ltb-false}
 use Rattle.common.specs.declared.fault.Fault.{Fault}
 use Rattle.common.specs.declared.fault.Fault.TheVariants.{NothingWaits}
-use Rattle.fields.specs.Fields.{over}
-use Rattle.wire.specs.Frames.{left_by}
+use Rattle.fields.specs.Fields.{over, left_by}
 use Rattle.combined.specs.Frames.{slot_length}
 use Rattle.feed.specs.declared.feed.Taken.{Taken}
 use Rattle.feed.specs.Calls.{short, pick, first_taken, first_over}
@@ -37,6 +36,11 @@ module _ (port : ℕ) (w : Whole) (r : Reached w) (b : List ℕ) (room : short b
         left = ap (stacked port) (q ∙ u.left) ∙ rw none;
         shut = ap (λ (x : Whole). x.shut) (q ∙ u.left);
       }
+
+  -- the same, by an answer of `take` that is no ticket
+  pub none_by : (a : Result ℕ Fault) (v : Whole) → is_ok a ≡ false → a ≡ call.take_said w → v ≡ call.lent w → Nexts (Err NothingWaits) b v
+  none_by (Err e) v h s q = none_lent e v s q
+  none_by (Ok n) v h s q = absurd (cc)
 
   -- ---- a slot is lent
   module _ (n : ℕ) (said : Ok n ≡ call.take_said w) where

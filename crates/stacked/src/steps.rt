@@ -40,9 +40,7 @@ impl<F: Feed, P: Policy> Stacked<F, P> {
         ensures shut { (whole self.new.concentrator).shut ≡ (whole self.old.concentrator).shut }
         ensures port { self.new.port ≡ self.old.port }
     {
-        let Ok(ticket) = self.concentrator.take() else {
-            return Err(Fault::NothingWaits);
-        };
+        let ticket = self.concentrator.take().map_err(|_| Fault::NothingWaits)?;
         let written = self.concentrator.write(ticket, buffer)?;
         Ok(written.len)
     }

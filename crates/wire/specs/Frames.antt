@@ -104,8 +104,3 @@ abbrev pub wrote_frame : List ℕ → List ℕ → Result ℕ Fault
 wrote_frame out body =
     cond (nat_lt 65519 (length body)) (Err fault.FrameSize)
     (cond (nat_lt (length out) (16 + length body)) (Err fault.Buffer) (Ok (16 + length body)))
-
--- what a buffer holds after a call that answered a length or a refusal: the bytes bs at its front, or what it held before
-abbrev pub left_by : Result ℕ Fault → List ℕ → List ℕ → List ℕ
-left_by (Ok n) bs out = over bs out
-left_by (Err e) bs out = out

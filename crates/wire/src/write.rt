@@ -1,4 +1,5 @@
-ghost use Rattle.wire.specs.Frames.{frame_bytes, header_for, left_by, resealed, wrote_frame};
+ghost use Rattle.fields.specs.Fields.{left_by};
+ghost use Rattle.wire.specs.Frames.{frame_bytes, header_for, resealed, wrote_frame};
 ghost use Rattle.wire.specs.Laws.{ToldAgain};
 ghost use Rattle.std.specs.Prelude.{◌≡◌, length};
 
@@ -33,9 +34,7 @@ pub fn write_frame(
     ensures told_again { ToldAgain }
 {
     let end = OVERHEAD + body.len();
-    let Ok(size) = u16::try_from(end) else {
-        return Err(Fault::FrameSize);
-    };
+    let size = u16::try_from(end).map_err(|_| Fault::FrameSize)?;
     if out.len() < end {
         return Err(Fault::Buffer);
     }

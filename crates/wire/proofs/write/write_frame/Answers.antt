@@ -1,4 +1,4 @@
-use Rattle.std.proofs.Common.{◌≡◌, ◌+◌, ◌-◌, ◌++◌, length, take, drop, refl, sym, ap, ◌∙◌, arith}
+use Rattle.std.proofs.Common.{◌≡◌, ◌+◌, ◌-◌, ◌++◌, length, take, drop, refl, sym, ap, ◌∙◌, arith, rules}
 use Rattle.std.proofs.lemmas.List.{length-take-le}
 use borrow.Rule.Slice.PartMut.{put_mid}
 use Rattle.fields.specs.Fields.{put, over}
@@ -10,8 +10,8 @@ use Rattle.wire.proofs.Again.{told-again}
 use Rattle.wire.proofs.Seals.{seals-over}
 use Rattle.wire.proofs.write.write_frame.Goals as goal
 
-pub returns-in_default-clause-told_again : goal.returns-in_default-clause-told_again
-returns-in_default-clause-told_again c = told-again
+pub returns-in_err-size-clause-told_again : goal.returns-in_err-size-clause-told_again
+returns-in_err-size-clause-told_again c = told-again
 
 pub returns-then-out-end-clause-told_again : goal.returns-then-out-end-clause-told_again
 returns-then-out-end-clause-told_again c = told-again
@@ -28,7 +28,7 @@ returns-clause-after c =
     let body = c.args.body.now in
     let n = 16 + length body in
     let head = header_bytes (header_for c.args.kind c.args.id c.args.time (length body)) in
-    let size : c.in-Ok.size ≡ n = omega arith in
+    let size : c.in_ok-size.size ≡ n = search rules in
     let first : c.copy_from_slice.new.self ≡ head =
     c.copy_from_slice.ensures.after
     ∙ (c.to_bytes.ensures.value ∙ ap (λ m. header_bytes (record { kind = c.args.kind; version = Y2011; size = m; id = c.args.id; time = c.args.time })) size) in

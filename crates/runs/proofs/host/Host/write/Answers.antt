@@ -13,5 +13,5 @@ invariant_of-self g c =
           c.ticket_for-ticket.ensures.left
           ∙ (ap (held_after (number_held s.ticket)) (sym c.ticket_for-ticket.ensures.number)
           ∙ (ap (λ o. held_after o n) s.held
-          ∙ (sym (write-out (whole s.concentrator) n (length c.deref_mut.result.now)) ∙ ap ticket_out (sym c.write.ensures.next))));
+          ∙ (sym (write-out (whole s.concentrator) n (length c.deref_mut.result.now)) ∙ ap ticket_out (sym c.write-written.ensures.next))));
     }
