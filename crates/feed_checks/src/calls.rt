@@ -1,6 +1,6 @@
 ghost use Rattle.feed.specs.Calls.{pick};
 ghost use Rattle.feed.specs.Feeds.{Next, Tick, after};
-ghost use Rattle.feed_checks.specs.Checks.{IsNext};
+ghost use Rattle.feed_checks.specs.Checks.{IsNext, is_filled};
 ghost use Rattle.std.specs.Prelude.{◌≡◌, ◌≢◌, IfErr, IfOk, Ok, [], false, true};
 
 use common::{Fault, Port};
@@ -18,7 +18,11 @@ fn check(due: bool, otherwise: &'static str) -> Result<(), &'static str>
     due.then_some(()).ok_or(otherwise)
 }
 
-fn check_filled(bytes: &[u8]) -> Result<(), &'static str> {
+// An error if a byte is not what buffers are filled with.
+fn check_filled(bytes: &[u8]) -> Result<(), &'static str>
+    ensures ok { IfOk result (λ _. is_filled bytes.now ≡ true) }
+    ensures err { IfErr result (λ _. is_filled bytes.now ≡ false) }
+{
     let same = bytes.iter().all(|byte| *byte == FILL);
     check(same, "bytes of a buffer changed that were to stay")
 }
@@ -35,6 +39,7 @@ pub fn tick<F: Feed>(feed: &mut F, reading: u64) -> Result<(), Fault>
 // That this frame is next, and is put at the front of a buffer whose rest stays as it was.
 pub fn check_next<F: Feed>(feed: &mut F, port: u8, frame: &[u8]) -> Result<(), &'static str>
     ensures next { IfOk result (λ _. IsNext ((F.meaning feed.old).waits []) port frame.now) }
+    ensures other { IfErr result (λ _. ¬ IsNext ((F.meaning feed.old).waits []) port frame.now) }
     ensures left { (F.meaning feed.new).waits ≡ pick ((F.meaning feed.old).waits []) (after (F.meaning feed.old).waits Next) (F.meaning feed.old).waits }
 {
     let mut buffer = [FILL; 1040];
@@ -54,6 +59,7 @@ pub fn check_next<F: Feed>(feed: &mut F, port: u8, frame: &[u8]) -> Result<(), &
 // That nothing waits, and the buffer stays as it was.
 pub fn check_idle<F: Feed>(feed: &mut F) -> Result<(), &'static str>
     ensures idle { IfOk result (λ _. (F.meaning feed.old).waits [] ≡ []) }
+    ensures busy { IfErr result (λ _. (F.meaning feed.old).waits [] ≢ []) }
     ensures left { (F.meaning feed.new).waits ≡ pick ((F.meaning feed.old).waits []) (after (F.meaning feed.old).waits Next) (F.meaning feed.old).waits }
 {
     let mut buffer = [FILL; 1040];
@@ -64,8 +70,9 @@ pub fn check_idle<F: Feed>(feed: &mut F) -> Result<(), &'static str>
     check_filled(&buffer)
 }
 
-// That a buffer of one byte too few is refused by either call, and stays as it was.
+// That a buffer of one byte too few is refused by either call, and stays as it was: so it is at every feed.
 pub fn check_short<F: Feed>(feed: &mut F, reading: u64) -> Result<(), &'static str>
+    ensures answer { result ≡ Ok tt }
     ensures left { (F.meaning feed.new).waits ≡ (F.meaning feed.old).waits }
 {
     let mut buffer = [FILL; 1039];
