@@ -7,6 +7,8 @@ use common::{Fault, Port};
 use feed::Feed;
 use fixtures::number;
 
+// Refusals are checked by their numbers, as a test gives its own values.
+
 // What every buffer is filled with before it is lent.
 const FILL: u8 = 0x55;
 

@@ -34,7 +34,9 @@ impl<'a> Frame<'a> {
         Ok(frame)
     }
 
-    // The same, with the frame's header.
+    // The same, with the frame's header. Inlined, so that what a caller takes of both need not be put
+    // together first.
+    #[inline(always)]
     pub fn read_headed(bytes: &'a [u8]) -> Result<(Header, Frame<'a>), Fault>
         ensures frame { answered_behind result ≡ classified bytes.now }
         ensures header { IfOk result (λ x. header_of bytes.now ≡ Ok x.0) }
