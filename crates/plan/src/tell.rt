@@ -21,7 +21,8 @@ impl Plan {
         self.rate
     }
 
-    // Where each port's body stands in a combined data frame, in the order of the ports.
+    // Where each port's body stands in a combined data frame, in the order of the ports. As a slice: who asks
+    // has shown that the plan has the port, and would take an `Option` apart once more.
     pub fn body_spans(&self) -> &[Span]
         ensures { result.now ≡ body_spans (plan_of self.now).ports }
     {
