@@ -43,17 +43,13 @@ impl<'a> Session<'a> {
         Ok(Answer::Done)
     }
 
-    // Makes a call on the box, and answers from its entry. By `run`, whose promise is of all calls that were
-    // made by it. A result stands in a result, as `?` would take the outer one alone.
+    // Makes a call on the box, and answers from its entry. A result stands in a result, as `?` would take the
+    // outer one alone.
     fn on_box(&mut self, call: runs::Call) -> Result<Result<Answer<'static>, Trouble>, AllocError> {
         let Some(host) = &mut self.opened else {
             return Ok(Err(Trouble::NoBox));
         };
-        let mut journal = host.run(self.heap, &[call])?;
-        // a run of one call has one entry
-        let Some(entry) = journal.pop() else {
-            unreachable!()
-        };
+        let entry = host.make(self.heap, call)?;
         Ok(Answer::of(entry).map_err(Trouble::Refused))
     }
 
