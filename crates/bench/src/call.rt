@@ -34,7 +34,7 @@ impl<'a> From<Record<'a>> for Call<'a> {
 }
 
 impl Call<'_> {
-    // The kind that the call is of.
+    // The kind that its cost is counted under.
     pub fn kind(self) -> Kind {
         match self {
             Call::Tick(_) => Kind::Tick,
