@@ -1,3 +1,3 @@
-mod Table
+mod Columns
 mod Linear
 pub mod Bounds

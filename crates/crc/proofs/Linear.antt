@@ -1,6 +1,6 @@
 -- The register's shifts are linear in the bits that do not reach its top, so a byte can be taken in by a table.
 use Rattle.std.proofs.Common.{◌≡◌, ℕ, ◌+◌, ◌*◌, ◌/◌, ◌%◌, ◌^◌, ◌<◌, sym, ap, ◌∙◌, arith, pow_pos}
-use lib.Bits.{bit_xor, bit_and, xor_mod, xor_shr, xor_block, xor_assoc, xor_comm, xor_zero_r, xor_shifted, and_mask}
+use lib.Bits.{bit_xor, xor_mod, xor_shr, xor_block, xor_assoc, xor_comm, xor_zero_r, xor_shifted}
 use Rattle.crc.specs.CheckWord.{shift, eight_shifts, taken, table_rule}
 
 -- a factor 2 ^ k goes through
@@ -52,24 +52,30 @@ split c b =
     ∙ (sym (xor_assoc hi (b * 256) lo) ∙ ap (λ u. bit_xor u lo) (sym (xor_scaled 8 (c / 256) b)))))
 
 -- a byte taken in by the table's rule
-pub by_table : (c b : ℕ) → taken c b ≡ bit_xor (bit_and c 255 * 256 % 65536) (table_rule (bit_xor (c / 256) b))
+by_table : (h l b : ℕ) → l < 256 → taken (h * 256 + l) b ≡ bit_xor (l * 256) (table_rule (bit_xor h b))
 unfolding taken table_rule
-by_table c b =
-    let m : bit_and c 255 ≡ c % 256 = and_mask c 8 in
-    let w : bit_and c 255 * 256 % 65536 ≡ c % 256 * 256 = omega (arith, m) in
+by_table h l b k =
+    let c : ℕ = h * 256 + l in
+    let top : c / 256 ≡ h = omega (arith, k) in
+    let low : c % 256 ≡ l = omega (arith, k) in
     ap eight_shifts (split c b) ∙ (shifts_low (bit_xor (c / 256) b * 256) (c % 256) (omega arith)
-    ∙ (xor_comm (table_rule (bit_xor (c / 256) b)) (c % 256 * 256) ∙ ap (λ u. bit_xor u (table_rule (bit_xor (c / 256) b))) (sym w)))
+    ∙ (ap (λ u. bit_xor (table_rule (bit_xor u b)) (c % 256 * 256)) top
+    ∙ (ap (λ u. bit_xor (table_rule (bit_xor h b)) (u * 256)) low ∙ xor_comm (table_rule (bit_xor h b)) (l * 256))))
+
+-- the same by the stored word's two bytes
+pub by_word : (h l b wh wl : ℕ) → l < 256 → wl < 256 → wh * 256 + wl ≡ table_rule (bit_xor h b) → taken (h * 256 + l) b ≡ bit_xor l wh * 256 + wl
+by_word h l b wh wl k kw e =
+    let none : l * 256 + 0 ≡ l * 256 = omega arith in
+    let met : bit_xor (l * 256 + 0) (wh * 256 + wl) ≡ bit_xor l wh * 256 + bit_xor 0 wl = xor_block 8 l wh 0 wl (omega arith) kw in
+    by_table h l b k ∙ (ap (bit_xor (l * 256)) (sym e) ∙ (ap (λ u. bit_xor u (wh * 256 + wl)) (sym none)
+    ∙ (met ∙ ap (λ u. bit_xor l wh * 256 + u) (xor_comm 0 wl ∙ xor_zero_r wl))))
 
 -- a byte that is taken in after another: the low byte of the register meets it at once
-pub by_table_next : (c b n : ℕ) → taken (taken c b) n ≡ taken (table_rule (bit_xor (c / 256) b)) (bit_xor (bit_and c 255) n)
+pub by_table_next : (h l b n : ℕ) → l < 256 → taken (taken (h * 256 + l) b) n ≡ taken (table_rule (bit_xor h b)) (bit_xor l n)
 unfolding taken
-by_table_next c b n =
-    let low : ℕ = bit_and c 255 * 256 in
-    let word : ℕ = table_rule (bit_xor (c / 256) b) in
-    let m : bit_and c 255 ≡ c % 256 = and_mask c 8 in
-    let kept : low % 65536 ≡ low = omega (arith, m) in
-    let first : taken c b ≡ bit_xor low word = by_table c b ∙ ap (λ u. bit_xor u word) kept in
-    let joined : bit_xor (bit_xor low word) (n * 256) ≡ bit_xor word (bit_xor (bit_and c 255) n * 256) =
-    ap (λ u. bit_xor u (n * 256)) (xor_comm low word)
-    ∙ (xor_assoc word low (n * 256) ∙ ap (bit_xor word) (sym (xor_scaled 8 (bit_and c 255) n))) in
-    ap (λ u. taken u n) first ∙ ap eight_shifts joined
+by_table_next h l b n k =
+    let word : ℕ = table_rule (bit_xor h b) in
+    let joined : bit_xor (bit_xor (l * 256) word) (n * 256) ≡ bit_xor word (bit_xor l n * 256) =
+    ap (λ u. bit_xor u (n * 256)) (xor_comm (l * 256) word)
+    ∙ (xor_assoc word (l * 256) (n * 256) ∙ ap (bit_xor word) (sym (xor_scaled 8 l n))) in
+    ap (λ u. taken u n) (by_table h l b k) ∙ ap eight_shifts joined

@@ -5,4 +5,5 @@ pub mod Machines
 pub mod Silent
 pub mod Joined
 pub mod Sides
+pub mod Changes
 pub mod Maps
