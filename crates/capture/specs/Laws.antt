@@ -3,6 +3,7 @@ use Rattle.std.specs.Prelude.{◌≡◌, ℕ, ◌/◌, ◌<◌, ◌≤◌, List,
 use Rattle.std.specs.List.{flat_map}
 use Rattle.fields.specs.Fields.{bytes16, bytes32}
 use Rattle.capture.specs.Records.{Entry, header, records_of}
+use Rattle.common.specs.Readings.{last_reading}
 
 -- the low 64 bits of a number as 8 bytes, the highest byte first
 abbrev pub bytes64 : ℕ → List ℕ
@@ -19,7 +20,7 @@ capture_bytes es = header ++ flat_map record_bytes es
 -- a record may stand behind one with the reading low
 pub record Sound (low : ℕ) (e : Entry) : Type 0 where
   pub rises : low ≤ e.reading
-  pub early : e.reading ≤ 4000000000000000
+  pub early : e.reading ≤ last_reading
   pub line : e.port ≤ 15
   pub some : 1 ≤ length e.frame
   pub few : length e.frame ≤ 1040

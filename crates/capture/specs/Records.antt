@@ -6,6 +6,7 @@ use Rattle.common.specs.declared.fault.Fault.{Fault}
 use Rattle.common.specs.declared.fault.Fault.TheVariants.{Unsound}
 use Rattle.fields.specs.Fields.{be8, be16, be64, bytes16}
 use Rattle.capture.specs.declared.record.Record.{Record}
+use Rattle.common.specs.Readings.{last_reading}
 
 -- a record, with the bytes of its frame
 pub record Entry : Type 0 where
@@ -32,15 +33,15 @@ behind bs = drop (be16 bs 9) (drop 11 bs)
 -- the limits of a record behind one with the reading low
 abbrev pub limited : ℕ → ℕ → ℕ → ℕ → Bool
 limited low reading port len =
-    nat_le low reading && (nat_le reading 4000000000000000 && (nat_le port 15 && (nat_le 1 len && nat_le len 1040)))
+    nat_le low reading && (nat_le reading last_reading && (nat_le port 15 && (nat_le 1 len && nat_le len 1040)))
 
 -- the bytes begin with a whole record within its limits
 abbrev pub sound_at : ℕ → List ℕ → Bool
 sound_at low bs = nat_le 11 (length bs) && (limited low (be64 bs 0) (be8 bs 8) (be16 bs 9) && nat_le (size_at bs) (length bs))
 
 -- a frame of n bytes in the first record, and the bytes behind the record, if they are there
-abbrev pub frame_of : ℕ → List ℕ → Option (List ℕ × List ℕ)
-frame_of n bs = cond (nat_le (11 + n) (length bs)) (Some (take n (drop 11 bs), drop n (drop 11 bs))) None
+abbrev pub frame_split : ℕ → List ℕ → Option (List ℕ × List ℕ)
+frame_split n bs = cond (nat_le (11 + n) (length bs)) (Some (take n (drop 11 bs), drop n (drop 11 bs))) None
 
 -- a frame and the bytes behind it, both borrowed, told by the bytes themselves; or none
 abbrev pub parts_of : Option (Bor (List ℕ) × Bor (List ℕ)) → Option (List ℕ × List ℕ)

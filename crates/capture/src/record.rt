@@ -1,4 +1,4 @@
-ghost use Rattle.capture.specs.Records.{first_record, frame_of, parts_of, split_of};
+ghost use Rattle.capture.specs.Records.{first_record, frame_split, parts_of, split_of};
 ghost use Rattle.std.specs.Prelude.{◌≡◌};
 
 use crate::limits::within_limits;
@@ -18,7 +18,7 @@ pub struct Record<'a> {
 
 // The frame of `len` bytes in the record that begins the bytes, and the bytes behind the record.
 fn split_frame(bytes: &[u8], len: u16) -> Option<(&[u8], &[u8])>
-    ensures { parts_of result ≡ frame_of len bytes.now }
+    ensures { parts_of result ≡ frame_split len bytes.now }
 {
     let (_, body) = bytes.split_at_checked(RECORD_HEAD)?;
     body.split_at_checked(usize::from(len))

@@ -1,5 +1,5 @@
 ghost use Rattle.closings.specs.Placing.{data_time_of, filled_port, slot_by};
-ghost use Rattle.listing.specs.Judged.{judged};
+ghost use Rattle.listing.specs.Judged.{header_judged};
 ghost use Rattle.plan.specs.Tables.{port_of as port_in};
 ghost use Rattle.plan.specs.Views.{plan_of};
 ghost use Rattle.slots.specs.Slots.{frames_of};
@@ -13,7 +13,7 @@ use wire::{FrameType, TimeTag};
 
 // The time of a sound data frame, and none of any other frame.
 pub fn data_time(frame: &[u8]) -> Option<TimeTag>
-    ensures { result ≡ data_time_of (judged frame.now) }
+    ensures { result ≡ data_time_of (header_judged frame.now) }
 {
     let header = judge(frame).ok()?;
     (header.kind == FrameType::Data).then_some(header.time)

@@ -50,14 +50,14 @@ module _ (e e' : State) (closing : Closing) (m m' : Behaviour) (opened : e.shut 
     by_first f fs room waited g =
         let port = g.port in
         let front = g.front in
-        let box : Box = on.taken closing e.setting e.box f.port f.bytes in
+        let box : Box = on.received closing e.setting e.box f.port f.bytes in
         let verdict : v ≡ on.verdict_of (on.judge e.setting e.box f.port f.bytes) =
         judged ∙ (rw (opened, few) (ap (λ q. on.verdict_of (on.judge e.setting e.box q (take x.len buffer'))) port ∙ ap (λ bs. on.verdict_of (on.judge e.setting e.box f.port bs)) front)) in
         let engine : e' ≡ with_box e box =
         next
-        ∙ (ap (λ a. left e (cond a e.box (on.taken closing e.setting e.box x.port.0 (take x.len buffer')))) few
-        ∙ (ap (λ q. left e (on.taken closing e.setting e.box q (take x.len buffer'))) port
-        ∙ (ap (λ bs. left e (on.taken closing e.setting e.box f.port bs)) front ∙ sym (left_open e box opened)))) in
+        ∙ (ap (λ a. left e (cond a e.box (on.received closing e.setting e.box x.port.0 (take x.len buffer')))) few
+        ∙ (ap (λ q. left e (on.received closing e.setting e.box q (take x.len buffer'))) port
+        ∙ (ap (λ bs. left e (on.received closing e.setting e.box f.port bs)) front ∙ sym (left_open e box opened)))) in
         let len = g.len in
         let tell : ℕ → ℕ → Result Unit Fault → Result Pulled Fault = λ q l u. Ok (record { port = record { 0 = q }; len = l; verdict = u }) in
         let took_it : pulled w buffer ≡ moved w box (after m Next) =

@@ -59,7 +59,7 @@ pull_buffer w buffer =
 -- the first frame that waits is gone from the feed, judged, kept if it is accepted, and counted; with none waiting nothing has changed
 abbrev pub took_first : Whole → List Waiting → Whole
 took_first w [] = w
-took_first w (f ∷ fs) = moved w (on.taken w.closing w.setting w.box f.port f.bytes) (after w.feed Next)
+took_first w (f ∷ fs) = moved w (on.received w.closing w.setting w.box f.port f.bytes) (after w.feed Next)
 
 -- what a pull with a buffer leaves of the concentrator; refused, it is as it was
 abbrev pub pulled : Whole → List ℕ → Whole

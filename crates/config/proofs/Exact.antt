@@ -9,7 +9,7 @@ use Rattle.common.specs.declared.fault.Fault.TheVariants as fault
 use Rattle.common.specs.Ids.{reserved}
 use Rattle.fields.specs.Fields.{be16, be24}
 use Rattle.config.specs.declared.station.Station.{Station}
-use Rattle.config.specs.Stations.{part_length, shape_at, few, judged, station_at, stations_in, before, onward}
+use Rattle.config.specs.Stations.{part_length, shape_at, few, station_judged, station_at, stations_in, before, onward}
 use Rattle.config.specs.Configs.{Says, configured, past_limits, saying, parts_of}
 
 pub err_not_ok : {A : Type 0} {e : Fault} {x : A} → Err e ≡ Ok x → ⊥
@@ -36,7 +36,7 @@ pub station_exact : (bs : List ℕ) (k : ℕ) (s : Station) → station_at bs k 
 station_exact bs k s p =
     let h = shape_at bs in
     let whole = cond (leb (part_length h) (length bs)) (Ok h) (Err (fault.StationLength k)) in
-    let a = passed (leb 26 (length bs)) (judged h k (length bs)) (fault.StationLength k) s p in
+    let a = passed (leb 26 (length bs)) (station_judged h k (length bs)) (fault.StationLength k) s p in
     let b = passed (few h) (cond (reserved h.id.0) (Err fault.IdCode) whole) (fault.StationLimit k) s a.1 in
     let c = not_stopped (reserved h.id.0) whole fault.IdCode s b.1 in
     let d = passed (leb (part_length h) (length bs)) (Ok h) (fault.StationLength k) s c.1 in

@@ -6,7 +6,7 @@ use Rattle.common.specs.declared.fault.Fault.TheVariants as fault
 use Rattle.common.specs.Ids.{reserved}
 use Rattle.fields.specs.Fields.{be16}
 use Rattle.config.specs.declared.station.Station.{Station}
-use Rattle.config.specs.Stations.{part_length, shape_at, few, judged, station_at, stations_in, before, onward}
+use Rattle.config.specs.Stations.{part_length, shape_at, few, station_judged, station_at, stations_in, before, onward}
 use Rattle.config.proofs.Exact.{StationFacts, stations_nil, stations-first}
 
 -- the number of a station shows only in refusals
@@ -14,8 +14,8 @@ station-made : (bs : List ℕ) (k : ℕ) (s : Station) → StationFacts bs s →
 station-made bs k s f =
     let n = length bs in
     let whole = cond (leb (part_length s) n) (Ok s) (Err (fault.StationLength k)) in
-    cond-true (leb 26 n) (judged (shape_at bs) k n) (Err (fault.StationLength k)) (le-leb 26 n f.begun)
-    ∙ (ap (λ t. judged t k n) (sym f.shape)
+    cond-true (leb 26 n) (station_judged (shape_at bs) k n) (Err (fault.StationLength k)) (le-leb 26 n f.begun)
+    ∙ (ap (λ t. station_judged t k n) (sym f.shape)
     ∙ (cond-true (few s) (cond (reserved s.id.0) (Err fault.IdCode) whole) (Err (fault.StationLimit k)) f.small
     ∙ (cond-false (reserved s.id.0) (Err fault.IdCode) whole f.named
     ∙ cond-true (leb (part_length s) n) (Ok s) (Err (fault.StationLength k)) (le-leb (part_length s) n f.whole))))

@@ -20,14 +20,14 @@ abbrev pub few : Station → Bool
 few s = nat_le s.phasors 32 && (nat_le s.analogs 16 && nat_le s.digitals 4)
 
 -- a station, number k, if its counts are few, its code is not reserved and its part is among the n bytes that are there, else the refusal of the first that fails
-abbrev pub judged : Station → ℕ → ℕ → Result Station Fault
-judged s k n =
+abbrev pub station_judged : Station → ℕ → ℕ → Result Station Fault
+station_judged s k n =
     cond (few s) (cond (reserved s.id.0) (Err fault.IdCode) (cond (nat_le (part_length s) n) (Ok s) (Err (fault.StationLength k))))
     (Err (fault.StationLimit k))
 
 -- the station, number k, whose part begins the bytes
 abbrev pub station_at : List ℕ → ℕ → Result Station Fault
-station_at bs k = cond (nat_le 26 (length bs)) (judged (shape_at bs) k (length bs)) (Err (fault.StationLength k))
+station_at bs k = cond (nat_le 26 (length bs)) (station_judged (shape_at bs) k (length bs)) (Err (fault.StationLength k))
 
 -- some stations and behind them those that a reading answers, or the refusal of that reading
 abbrev pub before : List Station → Result (List Station) Fault → Result (List Station) Fault

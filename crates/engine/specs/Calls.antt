@@ -9,7 +9,8 @@ use Rattle.sample.specs.Samples.{SampleOf, sample_of}
 use Rattle.cells.specs.Cells.{or_else}
 use Rattle.combined.specs.Blocks.{port_at, width_of}
 use Rattle.combined.specs.Frames.{slot_frame, slot_length}
-use Rattle.engine.specs.Limits.{last_reading, longest_step, earliest, window, most_frames}
+use Rattle.common.specs.Readings.{last_reading}
+use Rattle.engine.specs.Limits.{longest_step, earliest, window, most_frames}
 use Rattle.engine.specs.Boxes.{Setting, Closing, Box, stamp, oldest}
 use Rattle.engine.specs.Closing.{settled, settled_by}
 
@@ -144,12 +145,12 @@ abbrev pub admit_said : Setting → Box → ℕ → List ℕ → Result Unit Fau
 admit_said g s q bytes = cond (exhausted s) (Err fault.Exhausted) (verdict_of (judge g s q bytes))
 
 -- a frame for port q is judged, kept if it is accepted, and counted by its verdict
-abbrev pub taken : Closing → Setting → Box → ℕ → List ℕ → Box
-taken closing g s q bytes = counted (placed closing g s q (judge g s q bytes)) (verdict_number_of (verdict_of (judge g s q bytes)))
+abbrev pub received : Closing → Setting → Box → ℕ → List ℕ → Box
+received closing g s q bytes = counted (placed closing g s q (judge g s q bytes)) (verdict_number_of (verdict_of (judge g s q bytes)))
 
 -- what an admit of a frame for port q leaves of the box: once no more frames are judged it is as it was
 abbrev pub admitted : Closing → Setting → Box → ℕ → List ℕ → Box
-admitted closing g s q bytes = cond (exhausted s) s (taken closing g s q bytes)
+admitted closing g s q bytes = cond (exhausted s) s (received closing g s q bytes)
 
 -- ---- counts
 -- what counts tell: the slots written, the frames judged, and by number those that were given it, 0 for those accepted

@@ -1,10 +1,6 @@
 -- The numbers that bound an engine.
 use Rattle.std.specs.Prelude.{ℕ, ◌*◌}
 
--- the highest reading of the clock, in microseconds since 1970
-abbrev pub last_reading : ℕ
-last_reading = 4000000000000000
-
 -- how far past the latest reading a tick may be, in microseconds
 abbrev pub longest_step : ℕ
 longest_step = 60000000

@@ -4,7 +4,7 @@ use Rattle.common.specs.declared.fault.Fault.{Fault}
 use Rattle.slots.specs.declared.rate.Rate.{Rate}
 use Rattle.slots.specs.Slots.{frames_of}
 use Rattle.plan.specs.Plans.{PlanOf}
-use Rattle.engine.specs.Limits.{last_reading}
+use Rattle.common.specs.Readings.{last_reading}
 
 -- the refusal that is due, or the plan's own rate, at a reading that is small enough
 abbrev pub opens_by : Result Rate Fault → PlanOf → ℕ → Option Fault → Type 0

@@ -1,5 +1,6 @@
 ghost use Rattle.std.specs.Prelude.{◌≡◌, ◌+◌, ◌≤◌, cond, length, sum};
-ghost use Rattle.engine.specs.Limits.{last_reading, most_frames, slot_limit, window};
+ghost use Rattle.common.specs.Readings.{last_reading};
+ghost use Rattle.engine.specs.Limits.{most_frames, slot_limit, window};
 ghost use Rattle.slots.specs.Slots.{frames_of};
 
 use crate::admit::VERDICTS;

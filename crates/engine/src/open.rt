@@ -1,7 +1,8 @@
 ghost use Rattle.std.specs.Prelude.{◌≡◌, ◌≤◌, Some, None};
 ghost use Rattle.engine.specs.Calls.{open_fault};
 ghost use Rattle.engine.specs.Opens.{opens_by};
-ghost use Rattle.engine.specs.Limits.{last_reading, slot_limit};
+ghost use Rattle.common.specs.Readings.{last_reading};
+ghost use Rattle.engine.specs.Limits.{slot_limit};
 ghost use Rattle.engine.specs.States.{begins};
 ghost use Rattle.engine.specs.Views.{fresh, state_of};
 ghost use Rattle.plan.specs.Views.{plan_of};

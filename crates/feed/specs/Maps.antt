@@ -18,7 +18,7 @@ abbrev pub mapped : Map → Behaviour → Behaviour
 mapped f = each (changed f)
 
 -- a frame that can be carried still can once it is changed
-carried-changed : (f : Map) (w : Waiting) → Carried w → Carried (changed f w)
+pub carried-changed : (f : Map) (w : Waiting) → Carried w → Carried (changed f w)
 carried-changed f w c =
     let e = f.keeps w.port w.bytes in
     let s : 1 ≤ length w.bytes = c.some in

@@ -48,8 +48,8 @@ abbrev pub over : List ℕ → List ℕ → List ℕ
 over bs xs = bs ++ drop (length bs) xs
 
 -- what a write of bs at i answers: success, or that the buffer is too short
-abbrev pub wrote : List ℕ → ℕ → List ℕ → Result Unit Fault
-wrote xs i bs = cond (fits xs i (length bs)) (Ok tt) (Err Buffer)
+abbrev pub put_said : List ℕ → ℕ → List ℕ → Result Unit Fault
+put_said xs i bs = cond (fits xs i (length bs)) (Ok tt) (Err Buffer)
 
 -- what a write of bs at i leaves: the bytes in their place, or the buffer as it was if it is too short
 abbrev pub written : List ℕ → ℕ → List ℕ → List ℕ

@@ -3,6 +3,7 @@ use Rattle.std.specs.Prelude.{◌≡◌, ℕ, ◌+◌, ◌<◌, ◌≤◌, true,
 use Rattle.laws.specs.Setting.{Setting, Sort, Fault, Slot}
 use Rattle.feed.specs.Feeds.{Behaviour, Waiting}
 use Rattle.laws.specs.Journal.{start, ◌▹◌, Journal, Ticking, Admitting, Pulling, Taking, Writing, Source, Host, Feed, Event, Ticked, Took, Lent, Wrote, Told, Refused, latest, writes, accepted, frame_at, Closed, tally, judged, ticket_out, ops}
+use Rattle.common.specs.Readings.{last_reading}
 
 -- the oldest unwritten slot
 abbrev pub oldest : Setting → Journal → ℕ
@@ -40,9 +41,9 @@ pub record Counts (K : Journal) (a m : ℕ) (t : ℕ → ℕ) : Type 0 where
 
 -- the event that a call makes after K
 pub data Due (g : Setting) (B : Behaviour) (K : Journal) : Event → Type 0 where
-  tick : {r len : ℕ} → 1040 ≤ len → r ≤ 4000000000000000 → r ≤ latest g K + 60000000 → Due g B K (Ticked r len)
+  tick : {r len : ℕ} → 1040 ≤ len → r ≤ last_reading → r ≤ latest g K + 60000000 → Due g B K (Ticked r len)
   tick-short : {r len : ℕ} → len < 1040 → Due g B K (Refused (Ticking r len) 17)
-  tick-large : {r len : ℕ} → 1040 ≤ len → (4000000000000000 < r) ⊎ (latest g K + 60000000 < r) → Due g B K (Refused (Ticking r len) 14)
+  tick-large : {r len : ℕ} → 1040 ≤ len → (last_reading < r) ⊎ (latest g K + 60000000 < r) → Due g B K (Refused (Ticking r len) 14)
   frame : {w : Source} {q : ℕ} {b : List ℕ} {v : ℕ} → judged K < 1000000000000000 → From g B K w q b → Verdict g K q (g.sound q b) v → Due g B K (Took w q b v)
   admit_full : {q : ℕ} {b : List ℕ} → 1000000000000000 ≤ judged K → Due g B K (Refused (Admitting q b) 28)
   pull_short : {len : ℕ} → len < 1040 → Due g B K (Refused (Pulling len) 17)

@@ -3,6 +3,7 @@ use Rattle.std.specs.Prelude.{ℕ, zero, suc, ◌+◌, ◌-◌, max, Bool, true,
 use Rattle.laws.specs.Setting.{Setting, Contents, Sort, Fault, Slot}
 use Rattle.feed.specs.Feeds.{Tick, Next, Behaviour, Waiting, after}
 use Rattle.laws.specs.Journal.{Past, start, ◌▹◌, Call, Ticking, Admitting, Pulling, Taking, Writing, Counting, Source, Host, Feed, Event, Ticked, Took, Lent, Wrote, Told, Refused, Journal, or_else, one}
+use Rattle.common.specs.Readings.{last_reading}
 
 -- what the machine keeps between calls
 pub record State : Type 0 where
@@ -103,7 +104,7 @@ short len = nat_lt len 1040
 
 -- a reading that a tick refuses
 abbrev pub too_large : State → ℕ → Bool
-too_large s r = nat_lt 4000000000000000 r || nat_lt (s.latest + 60000000) r
+too_large s r = nat_lt last_reading r || nat_lt (s.latest + 60000000) r
 
 -- what a pull answers, by what waits
 abbrev pub pulls : Setting → State → ℕ → List Waiting → Event

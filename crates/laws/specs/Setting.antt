@@ -1,5 +1,6 @@
 -- What a concentrator is opened with: a plan, a wait policy and a reading, as far as the laws over runs speak of them.
 use Rattle.std.specs.Prelude.{◌≡◌, ℕ, ◌+◌, ◌<◌, ◌≤◌, List, Option}
+use Rattle.common.specs.Readings.{last_reading}
 
 -- what a frame is by itself, in no state: refused by a number, or sound and of a slot
 pub data Sort : Type 0 where
@@ -27,13 +28,13 @@ pub record Setting : Type 0 where
   -- where that has come by a reading in use, the stamp has come too, and it is no later than the stamp and the bound
   pub bound : ℕ
   pub closing : ℕ → Option ℕ → ℕ
-  pub from : (t : ℕ) (a : Option ℕ) (l : ℕ) → closing t a ≤ l → l ≤ 4000000000000000 → t ≤ l
+  pub from : (t : ℕ) (a : Option ℕ) (l : ℕ) → closing t a ≤ l → l ≤ last_reading → t ≤ l
   pub within : (t : ℕ) (a : Option ℕ) → closing t a ≤ t + bound
   -- a slot whose stamp is less than the bound and 100,000 after another's is less than 32 slots past it
   pub spread : (m n : ℕ) → stamp n < stamp m + bound + 100000 → n < m + 32
   -- the opening reading, one of those in use, and the first slot: the lowest whose stamp is not before it
   pub opening : ℕ
-  pub usable : opening ≤ 4000000000000000
+  pub usable : opening ≤ last_reading
   pub first : ℕ
   pub opens : opening ≤ stamp first
   pub lowest : (n : ℕ) → opening ≤ stamp n → first ≤ n

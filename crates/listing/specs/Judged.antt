@@ -11,5 +11,5 @@ headed (Ok t) h = h
 headed (Err e) h = Err e
 
 -- the header of a frame that passes all checks, or the refusal of the first check that fails
-abbrev pub judged : List ℕ → Result Header Fault
-judged bs = headed (classified bs) (header_of bs)
+abbrev pub header_judged : List ℕ → Result Header Fault
+header_judged bs = headed (classified bs) (header_of bs)

@@ -6,7 +6,7 @@ use Rattle.common.specs.declared.fault.Fault.TheVariants as fault
 use Rattle.config.proofs.Exact.{err_not_ok, not_stopped}
 use Rattle.layout.specs.Blocks.{data_length}
 use Rattle.plan.specs.Ports.{PortOf, station_count, body_length, part_lengths, parts_length}
-use Rattle.plan.specs.Plans.{PlanOf, own, asked, full, short, placed, judged, adds}
+use Rattle.plan.specs.Plans.{PlanOf, own, asked, full, short, with_room, addable, adds}
 use Rattle.plan.specs.Publish.{published_length, publishes}
 
 -- what a plan that is not full has room for
@@ -27,7 +27,7 @@ roomy ps q e =
       body = ltb-false 1024 (body_length ps + data_length q.stations) b.1;
     }
 
-pub placed_ok : (ps : List PortOf) (room : ℕ) (r : Result PortOf Fault) (q : PortOf) → placed ps room r ≡ Ok q → (r ≡ Ok q) × (full ps q ≡ false) × (short ps q room ≡ false)
+pub placed_ok : (ps : List PortOf) (room : ℕ) (r : Result PortOf Fault) (q : PortOf) → with_room ps room r ≡ Ok q → (r ≡ Ok q) × (full ps q ≡ false) × (short ps q room ≡ false)
 placed_ok ps room (Err e) q p = absurd (err_not_ok p)
 placed_ok ps room (Ok x) q p =
     let a = not_stopped (full ps x) (cond (short ps x room) (Err fault.Buffer) (Ok x)) fault.PlanFull q p in
@@ -35,7 +35,7 @@ placed_ok ps room (Ok x) q p =
     let e : x ≡ q = cc in
     (b.1, ap (full ps) (sym e) ∙ a.0, ap (λ y. short ps y room) (sym e) ∙ b.0)
 
-judged_ok : (r : Result Unit Fault) (p : PlanOf) (bytes : List ℕ) (room : ℕ) (q : PortOf) → judged r p bytes room ≡ Ok q → (r ≡ Ok tt) × (placed p.ports room (asked p.rate bytes) ≡ Ok q)
+judged_ok : (r : Result Unit Fault) (p : PlanOf) (bytes : List ℕ) (room : ℕ) (q : PortOf) → addable r p bytes room ≡ Ok q → (r ≡ Ok tt) × (with_room p.ports room (asked p.rate bytes) ≡ Ok q)
 judged_ok (Ok u) p bytes room q h = (refl, h)
 judged_ok (Err e) p bytes room q h = absurd (err_not_ok h)
 

@@ -48,18 +48,18 @@ abbrev pub short : List PortOf → PortOf → ℕ → Bool
 short ps q room = nat_lt room (20 + parts_length ps + part_lengths q.stations + 4)
 
 -- the port that was asked for, if the plan and then the buffer have room for it, else the refusal
-abbrev pub placed : List PortOf → ℕ → Result PortOf Fault → Result PortOf Fault
-placed ps room (Ok q) = cond (full ps q) (Err fault.PlanFull) (cond (short ps q room) (Err fault.Buffer) (Ok q))
-placed ps room (Err e) = Err e
+abbrev pub with_room : List PortOf → ℕ → Result PortOf Fault → Result PortOf Fault
+with_room ps room (Ok q) = cond (full ps q) (Err fault.PlanFull) (cond (short ps q room) (Err fault.Buffer) (Ok q))
+with_room ps room (Err e) = Err e
 
 -- the plan's own code and rate are checked first, then the frame, and then the room for its port
-abbrev pub judged : Result Unit Fault → PlanOf → List ℕ → ℕ → Result PortOf Fault
-judged (Ok u) p bytes room = placed p.ports room (asked p.rate bytes)
-judged (Err e) p bytes room = Err e
+abbrev pub addable : Result Unit Fault → PlanOf → List ℕ → ℕ → Result PortOf Fault
+addable (Ok u) p bytes room = with_room p.ports room (asked p.rate bytes)
+addable (Err e) p bytes room = Err e
 
 -- the port that an add of the frame, with a buffer of so many bytes, puts into the plan, or its refusal
 abbrev pub adds : PlanOf → List ℕ → ℕ → Result PortOf Fault
-adds p bytes room = judged (own p) p bytes room
+adds p bytes room = addable (own p) p bytes room
 
 -- what an add answers: the next port's number, or the refusal
 abbrev pub add_answer : PlanOf → Result PortOf Fault → Result ℕ Fault

@@ -9,6 +9,7 @@ use Rattle.wire.specs.declared.kind.FrameType.TheVariants.{Config2}
 use Rattle.wire.specs.Frames.{header_for, frame_bytes}
 use Rattle.plan.specs.Ports.{station_count, parts_length}
 use Rattle.plan.specs.Plans.{PlanOf}
+use Rattle.common.specs.Readings.{last_reading}
 
 -- its length: 20 bytes before the parts, and 4 behind them
 abbrev pub published_length : PlanOf → ℕ
@@ -18,7 +19,7 @@ published_length p = 24 + parts_length p.ports
 abbrev pub publishes : PlanOf → ℕ → ℕ → Result ℕ Fault
 publishes p reading room =
     cond (nat_lt room (published_length p)) (Err fault.Buffer)
-    (cond (nat_lt 4000000000000000 reading) (Err fault.Reading) (cond (length p.ports == 0) (Err fault.EmptyPlan) (Ok (published_length p))))
+    (cond (nat_lt last_reading reading) (Err fault.Reading) (cond (length p.ports == 0) (Err fault.EmptyPlan) (Ok (published_length p))))
 
 -- a reading, in microseconds, as a time tag of the time base 1,000,000, with quality 0
 abbrev pub tag_at : ℕ → TimeTag

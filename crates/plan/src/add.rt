@@ -1,5 +1,5 @@
 ghost use Rattle.std.specs.Prelude.{◌≡◌, false, length, Ok, IfOk};
-ghost use Rattle.plan.specs.Plans.{add_answer, add_buffer, add_plan, adds, asked, begun, bodied, full, numbered, own, parts_in, placed};
+ghost use Rattle.plan.specs.Plans.{add_answer, add_buffer, add_plan, adds, asked, begun, bodied, full, numbered, own, parts_in, with_room};
 ghost use Rattle.plan.specs.Tables.{port_of, ports_of};
 ghost use Rattle.plan.specs.Views.{requested_by, passing, plan_of, port_by};
 
@@ -94,7 +94,7 @@ impl Plan {
 
     // Whether the limits of the plan, and then the buffer, leave room for what is asked for.
     fn check_room(&self, request: &Request, room: usize) -> Result<(), Fault>
-        ensures { passing result (port_of request.now.port) ≡ placed (ports_of self.now.table) room (Ok (port_of request.now.port)) }
+        ensures { passing result (port_of request.now.port) ≡ with_room (ports_of self.now.table) room (Ok (port_of request.now.port)) }
     {
         if self.is_full_for(&request.port) {
             return Err(Fault::PlanFull);

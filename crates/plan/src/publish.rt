@@ -1,3 +1,4 @@
+ghost use Rattle.common.specs.Readings.{last_reading};
 ghost use Rattle.std.specs.Prelude.{◌≡◌, ◌+◌, ◌≤◌, length};
 ghost use Rattle.fields.specs.Fields.{over, left_by};
 ghost use Rattle.plan.specs.Laws.{ReadsBack};
@@ -23,7 +24,7 @@ impl Plan {
     // Writes the frame around the station parts that the buffer holds.
     fn wrap(&self, reading: u64, buffer: &mut [u8])
         requires room { 24 + self.now.parts ≤ length buffer.old }
-        requires reading { reading ≤ 4000000000000000 }
+        requires reading { reading ≤ last_reading }
         ensures { buffer.new ≡ over (published_frame (plan_of self.now) reading buffer.old) buffer.old }
     {
         let size = self.published_len();

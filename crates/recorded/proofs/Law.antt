@@ -5,7 +5,7 @@ use Rattle.std.proofs.lemmas.Bool.{cases_Bool, leb-false, lt-leb}
 use Rattle.common.specs.declared.fault.Fault.{Fault}
 use Rattle.capture.specs.Records.{Entry}
 use Rattle.feed.specs.Feeds.{Op, Tick, Next}
-use Rattle.recorded.specs.Queues.{Queue, come, due, step, frame_of, playing, begun}
+use Rattle.recorded.specs.Queues.{Queue, come, due, step, waiting_of, playing, begun}
 use Rattle.recorded.specs.Laws.{passed, newly, AddsAllDue, SilentIfUnsound}
 use Rattle.recorded.proofs.Rising.{Rises, records_rise}
 
@@ -55,14 +55,14 @@ newly-late t ops r (e ∷ es) =
       | false ↦ ap (λ (xs : List Entry). cond (not (passed ops e) && come r e) (e ∷ xs) xs) (newly-late t ops r es)
     ]
 
-adds : (q : Queue) (low : ℕ) → Rises low q.coming → (ops : List Op) (r : ℕ) → playing q (ops ++ (Tick r ∷ [])) ≡ playing q ops ++ map frame_of (newly ops r q.coming)
+adds : (q : Queue) (low : ℕ) → Rises low q.coming → (ops : List Op) (r : ℕ) → playing q (ops ++ (Tick r ∷ [])) ≡ playing q ops ++ map waiting_of (newly ops r q.coming)
 adds q low s [] r =
-    map-append frame_of q.waiting (take (due r q.coming) q.coming)
-    ∙ ap (λ (xs : List Entry). map frame_of q.waiting ++ map frame_of xs) (due-early r low q.coming s).0
+    map-append waiting_of q.waiting (take (due r q.coming) q.coming)
+    ∙ ap (λ (xs : List Entry). map waiting_of q.waiting ++ map waiting_of xs) (due-early r low q.coming s).0
 adds q low s (Tick t ∷ ops) r =
     let n = due t q.coming in
     adds (step q (Tick t)) low (rises-drop n low q.coming s) ops r
-    ∙ ap (λ (xs : List Entry). playing (step q (Tick t)) ops ++ map frame_of xs)
+    ∙ ap (λ (xs : List Entry). playing (step q (Tick t)) ops ++ map waiting_of xs)
     (ap (newly ops r) (due-early t low q.coming s).1 ∙ newly-late t ops r q.coming)
 adds q low s (Next ∷ ops) r = adds (step q Next) low s ops r
 
@@ -70,7 +70,7 @@ adds-all-due : AddsAllDue
 adds-all-due bs es h ops r =
     ap (λ (o : Result (List Entry) Fault). playing (begun o) (ops ++ (Tick r ∷ []))) h
     ∙ (adds (begun (Ok es)) 0 (records_rise bs es h) ops r
-    ∙ sym (ap (λ (o : Result (List Entry) Fault). playing (begun o) ops ++ map frame_of (newly ops r es)) h))
+    ∙ sym (ap (λ (o : Result (List Entry) Fault). playing (begun o) ops ++ map waiting_of (newly ops r es)) h))
 
 nothing : (ops : List Op) → playing (record { waiting = []; coming = [] }) ops ≡ []
 nothing [] = refl

@@ -10,11 +10,11 @@ use Rattle.capture.proofs.Walk.{Sized, sized}
 use Rattle.feed.specs.Feeds.{Op, Tick, Next, rest, Within, Carried, AllCarried, Lawful}
 use Rattle.feed.specs.Lists.{within-before}
 use Rattle.feed.specs.Machines.{Steps, machine_lawful}
-use Rattle.recorded.specs.Queues.{Queue, due, step, frame_of, waits, playing}
+use Rattle.recorded.specs.Queues.{Queue, due, step, waiting_of, waits, playing}
 
 -- a record whose frame a feed can carry
 abbrev pub Carries : Entry → Type 0
-Carries e = Carried (frame_of e)
+Carries e = Carried (waiting_of e)
 
 -- every record of the queue is such a one
 abbrev pub Held : Queue → Type 0
@@ -52,20 +52,20 @@ stays q Next h = (All-drop Carries 1 q.waiting h.0, h.1)
 ticked : (q : Queue) (r : ℕ) → Held q → Within (waits q) (waits (step q (Tick r)))
 ticked q r h =
     let more = take (due r q.coming) q.coming in
-    rw (map-append frame_of q.waiting more) (within-before (map frame_of q.waiting) (map frame_of more))
+    rw (map-append waiting_of q.waiting more) (within-before (map waiting_of q.waiting) (map waiting_of more))
 
 -- what waits without the first record is what waited without the first frame
-rest-waits : (es : List Entry) → map frame_of (drop 1 es) ≡ rest (map frame_of es)
+rest-waits : (es : List Entry) → map waiting_of (drop 1 es) ≡ rest (map waiting_of es)
 rest-waits [] = refl
 rest-waits (e ∷ es) = refl
 
 -- where nothing waits there is no record to take away
-none_gone : (es : List Entry) → map frame_of es ≡ [] → drop 1 es ≡ es
+none_gone : (es : List Entry) → map waiting_of es ≡ [] → drop 1 es ≡ es
 none_gone [] h = refl
 none_gone (e ∷ es) h = cc
 
 -- the frames of records that can be carried can be carried
-all-carried : (es : List Entry) → AllByRecursion Carries es → AllCarried (map frame_of es)
+all-carried : (es : List Entry) → AllByRecursion Carries es → AllCarried (map waiting_of es)
 all-carried [] h = tt
 all-carried (e ∷ es) h = (h.0, all-carried es h.1)
 

@@ -3,7 +3,7 @@ use Rattle.std.specs.Prelude.{◌≡◌, ℕ, Bool, false, not, ◌&&◌, ◌||�
 use Rattle.common.specs.declared.fault.Fault.{Fault}
 use Rattle.capture.specs.Records.{Entry, records_of}
 use Rattle.feed.specs.Feeds.{Op, Tick, Next}
-use Rattle.recorded.specs.Queues.{come, frame_of, played}
+use Rattle.recorded.specs.Queues.{come, waiting_of, played}
 
 -- some tick has come to a record
 abbrev pub passed : List Op → Entry → Bool
@@ -18,7 +18,7 @@ newly ops r es = filter (λ e. not (passed ops e) && come r e) es
 -- of a sound capture a tick adds, at the end, all records that it is the first to come to, and no others
 abbrev pub AddsAllDue : Type 0
 AddsAllDue =
-    (bs : List ℕ) (es : List Entry) → records_of bs ≡ Ok es → (ops : List Op) (r : ℕ) → played bs (ops ++ (Tick r ∷ [])) ≡ played bs ops ++ map frame_of (newly ops r es)
+    (bs : List ℕ) (es : List Entry) → records_of bs ≡ Ok es → (ops : List Op) (r : ℕ) → played bs (ops ++ (Tick r ∷ [])) ≡ played bs ops ++ map waiting_of (newly ops r es)
 
 -- of a capture that is not sound, nothing ever waits
 abbrev pub SilentIfUnsound : Type 0

@@ -32,12 +32,12 @@ first [] = None
 first (e ∷ es) = Some e
 
 -- a record, as a frame that waits
-abbrev pub frame_of : Entry → Waiting
-frame_of e = record { port = e.port; bytes = e.frame }
+abbrev pub waiting_of : Entry → Waiting
+waiting_of e = record { port = e.port; bytes = e.frame }
 
 -- the frames that wait: those of the waiting records, in their order
 abbrev pub waits : Queue → List Waiting
-waits q = map frame_of q.waiting
+waits q = map waiting_of q.waiting
 
 -- what waits after each sequence of ticks and nexts, from a queue on
 abbrev pub playing : Queue → Behaviour

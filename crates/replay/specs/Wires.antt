@@ -27,7 +27,7 @@ abbrev pub all_led : List Outcome → Behaviour → Behaviour
 all_led lines = each (led lines)
 
 -- a frame that can be carried still can once it is led to its port
-carried-led : (lines : List Outcome) (w : Waiting) → Carried w → Carried (led lines w)
+pub carried-led : (lines : List Outcome) (w : Waiting) → Carried w → Carried (led lines w)
 carried-led lines w c = record { line = omega arith; some = c.some; few = c.few }
 
 -- what a feed means once its lines are led to ports

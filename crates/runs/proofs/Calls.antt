@@ -79,7 +79,7 @@ module _ (e : E.Setting) (closing : E.Closing) (bound reading : ℕ) (o : Opened
       go false = judged-event q b
 
   -- the box after a frame from a source, with the feed as that source leaves it
-  took-next : (from : J.Source) (q : ℕ) (b : List ℕ) → W.moved w (K.taken closing e (box_of e s) q b) (M.fed from s.feed) ≡ whole_of e closing (M.next g s (J.Took from q b (M.judge g s q b)))
+  took-next : (from : J.Source) (q : ℕ) (b : List ℕ) → W.moved w (K.received closing e (box_of e s) q b) (M.fed from s.feed) ≡ whole_of e closing (M.next g s (J.Took from q b (M.judge g s q b)))
   took-next from q b =
       ap (λ t. W.moved w t (M.fed from s.feed)) (taken-same e closing bound reading o s from q b)
       ∙ ap (λ f. W.moved w (box_of e (M.next g s (J.Took from q b (M.judge g s q b)))) (M.fed from f)) (sym (feed-placed g s q b (M.judge g s q b) (g.sound q b)))
@@ -87,7 +87,7 @@ module _ (e : E.Setting) (closing : E.Closing) (bound reading : ℕ) (o : Opened
   pub admit_next : (q : ℕ) (b : List ℕ) → Q.admitted w q b ≡ whole_of e closing (M.next g s (M.event g s (J.Admitting q b)))
   admit_next q b = go (leb 1000000000000000 s.judged)
     where
-      go : (a : Bool) → W.moved w (cond a (box_of e s) (K.taken closing e (box_of e s) q b)) s.feed ≡ whole_of e closing (M.next g s (cond a (J.Refused (J.Admitting q b) 28) (J.Took J.Host q b (M.judge g s q b))))
+      go : (a : Bool) → W.moved w (cond a (box_of e s) (K.received closing e (box_of e s) q b)) s.feed ≡ whole_of e closing (M.next g s (cond a (J.Refused (J.Admitting q b) 28) (J.Took J.Host q b (M.judge g s q b))))
       go true = refl
       go false = took-next J.Host q b
 

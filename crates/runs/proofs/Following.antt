@@ -132,7 +132,7 @@ module _ (e : E.Setting) (closing : E.Closing) (bound reading : ℕ) (o : Opened
       go (Ok u) v w = rw (← w) (ap (λ t. C.settled_by closing e t x.slot (not (is_some (s.arrived x.slot)))) (kept_same s q b x z) ∙ settled-by-same (M.put s q b x.slot) x.slot (not (is_some (s.arrived x.slot))))
       go (Err f) v w = rw (← w, number-some f)
 
-  pub taken-same : (s : M.State) (w : J.Source) (q : ℕ) (b : List ℕ) → K.taken closing e (box_of e s) q b ≡ box_of e (M.tallied (M.placed g s q b (M.judge g s q b) (g.sound q b)) w (M.judge g s q b))
+  pub taken-same : (s : M.State) (w : J.Source) (q : ℕ) (b : List ℕ) → K.received closing e (box_of e s) q b ≡ box_of e (M.tallied (M.placed g s q b (M.judge g s q b) (g.sound q b)) w (M.judge g s q b))
   taken-same s w q b = ap (λ t. K.counted t (K.verdict_number_of (K.verdict_of (K.judge e (box_of e s) q b)))) (placed_same s q b (K.sound_at e q b) refl)
       ∙ ap (K.counted (box_of e (M.placed g s q b (M.judge g s q b) (g.sound q b)))) (verdict-same s q (K.sound_at e q b))
 

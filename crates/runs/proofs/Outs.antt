@@ -26,7 +26,7 @@ module _ (w : Whole) where
   placed-out q (Ok x) = refl
   placed-out q (Err f) = refl
 
-  taken-out : (q : ℕ) (b : List ℕ) → (K.taken w.closing w.setting w.box q b).out ≡ w.box.out
+  taken-out : (q : ℕ) (b : List ℕ) → (K.received w.closing w.setting w.box q b).out ≡ w.box.out
   taken-out q b = placed-out q (K.judge w.setting w.box q b)
 
   timed-out : (r : Result ℕ Fault) → ticket_out (Q.ticked_by w r) ≡ ticket_out w

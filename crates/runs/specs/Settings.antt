@@ -11,13 +11,14 @@ use Rattle.engine.specs.Calls as K
 use Rattle.laws.specs.Setting.{Setting, Fault, Slot}
 use Rattle.runs.specs.Models.{sort_of, blocks_of}
 use Rattle.runs.specs.Numbered.{numbered}
+use Rattle.common.specs.Readings.{last_reading}
 
 -- what is known of an engine that opened
 pub record Opened (e : E.Setting) (closing : E.Closing) (bound reading : ℕ) : Type 0 where
   pub ports : 0 < length e.ports
   pub rate : 0 < e.rate
   pub fits : window_fits e.rate bound ≡ true
-  pub usable : reading ≤ 4000000000000000
+  pub usable : reading ≤ last_reading
   pub first : e.first ≡ first_slot e.rate reading
   pub from : (t : ℕ) (a : Option ℕ) → t ≤ closing t a
   pub within : (t : ℕ) (a : Option ℕ) → closing t a ≤ t + bound

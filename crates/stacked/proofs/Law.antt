@@ -46,7 +46,7 @@ dry-by n v l o e more true fs p q = subst Dry (sym (pulls_same (suc n) v (rw (o,
 dry-by n v l o e more false [] p q =
     let z : ◌≡◌ {A = ℕ} 0 (suc n) = ap (λ (ws : List Waiting). length ws) (sym q) ∙ e in absurd (cc)
 dry-by n v l o e more false (f ∷ fs) p q =
-    let u : Whole = moved v (on.taken v.closing v.setting v.box f.port f.bytes) (after v.feed Next) in
+    let u : Whole = moved v (on.received v.closing v.setting v.box f.port f.bytes) (after v.feed Next) in
     let one : pulled v ≡ u = rw (o, p, q) in
     let gone : u.feed [] ≡ fs = l.nexted [] ∙ ap rest q in
     let long : suc (length fs) ≡ suc n = ap (λ (ws : List Waiting). length ws) (sym q) ∙ e in

@@ -128,7 +128,7 @@ module _ (closing : Closing) (g : Setting) where
       after_then (after_kept s q x (h x refl)) (after_settled_by (on.kept s q x) x.slot (not (is_some (s.arrived x.slot))))
 
   -- once a frame is taken, whatever becomes of it
-  after_taken : (s : Box) (q : ℕ) (bytes : List ℕ) → After g s (on.taken closing g s q bytes)
+  after_taken : (s : Box) (q : ℕ) (bytes : List ℕ) → After g s (on.received closing g s q bytes)
   after_taken s q bytes =
       let r = on.judge g s q bytes in
       after_then (after_placed s q r (λ x e. accepts g s q bytes x e))

@@ -100,7 +100,7 @@ abbrev pub header_for : FrameType → IdCode → TimeTag → ℕ → Header
 header_for t id time n = record { kind = t; version = Y2011; size = 16 + n; id = id; time = time }
 
 -- what the writing of a frame answers: FRAMESIZE has to hold its length, and the buffer the frame
-abbrev pub wrote_frame : List ℕ → List ℕ → Result ℕ Fault
-wrote_frame out body =
+abbrev pub write_frame_said : List ℕ → List ℕ → Result ℕ Fault
+write_frame_said out body =
     cond (nat_lt 65519 (length body)) (Err fault.FrameSize)
     (cond (nat_lt (length out) (16 + length body)) (Err fault.Buffer) (Ok (16 + length body)))

@@ -1,5 +1,5 @@
 ghost use Rattle.fields.specs.Fields.{left_by};
-ghost use Rattle.wire.specs.Frames.{frame_bytes, header_for, resealed, wrote_frame};
+ghost use Rattle.wire.specs.Frames.{frame_bytes, header_for, resealed, write_frame_said};
 ghost use Rattle.wire.specs.Laws.{ToldAgain};
 ghost use Rattle.std.specs.Prelude.{◌≡◌, length};
 
@@ -29,7 +29,7 @@ pub fn write_frame(
     time: TimeTag,
     body: &[u8],
 ) -> Result<usize, Fault>
-    ensures answer { result ≡ wrote_frame out.old body.now }
+    ensures answer { result ≡ write_frame_said out.old body.now }
     ensures after { out.new ≡ left_by result (frame_bytes (header_for kind id time (length body.now)) body.now) out.old }
     ensures told_again { ToldAgain }
 {
