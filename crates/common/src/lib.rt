@@ -4,8 +4,6 @@
 mod fault;
 mod ids;
 mod limits;
-#[cfg(test)]
-mod tests;
 
 pub use fault::{Fault, verdict_number};
 pub use ids::{IdCode, Port};

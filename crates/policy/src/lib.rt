@@ -6,8 +6,6 @@ mod limits;
 mod policy;
 mod relative;
 mod sooner;
-#[cfg(test)]
-mod tests;
 
 pub use absolute::Absolute;
 pub use policy::Policy;

@@ -4,8 +4,6 @@
 mod frame;
 mod header;
 mod kind;
-#[cfg(test)]
-mod tests;
 mod write;
 
 pub use frame::Frame;

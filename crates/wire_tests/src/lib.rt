@@ -6,6 +6,8 @@ mod damaged;
 #[cfg(test)]
 mod numbers;
 #[cfg(test)]
+mod printed;
+#[cfg(test)]
 mod worked;
 #[cfg(test)]
 mod written;

@@ -1,7 +1,5 @@
-use crate::absolute::Absolute;
-use crate::policy::Policy;
-use crate::relative::Relative;
-use crate::sooner::Sooner;
+// When slots close, by each wait policy.
+use policy::{Absolute, Policy, Relative, Sooner};
 
 // A stamp and three first arrivals: before it, soon after it, and late.
 #[test]
