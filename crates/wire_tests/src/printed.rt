@@ -9,16 +9,10 @@ fn padded_numbers(rt: HostRuntime) -> Result<(), Fail> {
     let heap = rt.alloc();
     let port = Port(7);
     let id = IdCode(7734);
-    let plain = format!(in heap; "{port} {id}")?;
-    assert_eq!(rt; plain.as_str(), "7 7734");
-    let right = format!(in heap; "[{port:>4}] [{id:>5}]")?;
-    assert_eq!(rt; right.as_str(), "[   7] [ 7734]");
-    let left = format!(in heap; "[{port:<3}] [{id:<6}]")?;
-    assert_eq!(rt; left.as_str(), "[7  ] [7734  ]");
-    let zeros = format!(in heap; "[{port:02}] [{id:05}]")?;
-    assert_eq!(rt; zeros.as_str(), "[07] [07734]");
-    let stars = format!(in heap; "[{port:*^5}] [{id:*<5}]")?;
-    assert_eq!(rt; stars.as_str(), "[**7**] [7734*]");
+    let ports = format!(in heap; "{port} [{port:>4}] [{port:<3}] [{port:02}] [{port:*^5}]")?;
+    assert_eq!(rt; ports.as_str(), "7 [   7] [7  ] [07] [**7**]");
+    let ids = format!(in heap; "{id} [{id:>5}] [{id:<6}] [{id:05}] [{id:*<5}]")?;
+    assert_eq!(rt; ids.as_str(), "7734 [ 7734] [7734  ] [07734] [7734*]");
     Ok(())
 }
 

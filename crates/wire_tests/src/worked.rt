@@ -1,9 +1,10 @@
 // The frames that the standard works out, field by field.
 use common::IdCode;
 use crc::check_word;
+use fields::{u16_at, u32_at};
 use fixtures::{CONFIG, DATA, from_hex};
 use std::test::Fail;
-use wire::{Frame, FrameType, Header, Version};
+use wire::{Frame, FrameType, Header, TimeTag, Version};
 
 #[test]
 fn the_digits_have_their_check_word(rt: HostRuntime) {
@@ -14,60 +15,60 @@ fn the_digits_have_their_check_word(rt: HostRuntime) {
 #[test]
 fn data_header(rt: HostRuntime) -> Result<(), Fail> {
     let bytes = from_hex(rt.alloc(), DATA)?;
-    let header = Header::read(bytes.as_slice())?;
-    assert_eq!(rt; header.kind, FrameType::Data);
-    assert_eq!(rt; header.version, Version::Y2005);
-    assert_eq!(rt; header.size, 52);
-    assert_eq!(rt; header.id, IdCode(7734));
-    assert_eq!(rt; header.time.soc, 1_149_580_800);
-    assert_eq!(rt; header.time.quality, 0);
-    assert_eq!(rt; header.time.count, 16_817);
+    let expected = Header {
+        kind: FrameType::Data,
+        version: Version::Y2005,
+        size: 52,
+        id: IdCode(7734),
+        time: TimeTag {
+            soc: 1_149_580_800,
+            quality: 0,
+            count: 16_817,
+        },
+    };
+    assert_eq!(rt; Header::read(bytes.as_slice())?, expected);
     Ok(())
 }
 
 #[test]
 fn data_body(rt: HostRuntime) -> Result<(), Fail> {
     let bytes = from_hex(rt.alloc(), DATA)?;
-    match Frame::read(bytes.as_slice())? {
-        Frame::Data(body) => {
-            assert_eq!(rt; body.len(), 36);
-            // STAT, the first phasor's real part, and the digital word
-            assert_eq!(rt; fields::u16_at(body, 0), Some(0));
-            assert_eq!(rt; fields::u16_at(body, 2), Some(0x392b));
-            assert_eq!(rt; fields::u16_at(body, 34), Some(0x3c12));
-            Ok(())
-        }
-        _ => Err(Fail::new("not told as data")),
+    let body = Frame::read(bytes.as_slice())?.data()?;
+    assert_eq!(rt; body.len(), 36);
+    // STAT, the first phasor's real part, and the digital word
+    for (at, word) in [(0, 0), (2, 0x392b), (34, 0x3c12)] {
+        assert_eq!(rt; u16_at(body, at), Some(word));
     }
+    Ok(())
 }
 
 #[test]
 fn config_header(rt: HostRuntime) -> Result<(), Fail> {
     let bytes = from_hex(rt.alloc(), CONFIG)?;
-    let header = Header::read(bytes.as_slice())?;
-    assert_eq!(rt; header.kind, FrameType::Config2);
-    assert_eq!(rt; header.version, Version::Y2005);
-    assert_eq!(rt; header.size, 454);
-    assert_eq!(rt; header.id, IdCode(7734));
-    assert_eq!(rt; header.time.soc, 1_149_577_200);
-    assert_eq!(rt; header.time.quality, 0x56);
-    assert_eq!(rt; header.time.count, 463_000);
+    let expected = Header {
+        kind: FrameType::Config2,
+        version: Version::Y2005,
+        size: 454,
+        id: IdCode(7734),
+        time: TimeTag {
+            soc: 1_149_577_200,
+            quality: 0x56,
+            count: 463_000,
+        },
+    };
+    assert_eq!(rt; Header::read(bytes.as_slice())?, expected);
     Ok(())
 }
 
 #[test]
 fn config_body(rt: HostRuntime) -> Result<(), Fail> {
     let bytes = from_hex(rt.alloc(), CONFIG)?;
-    match Frame::read(bytes.as_slice())? {
-        Frame::Config2(body) => {
-            assert_eq!(rt; body.len(), 438);
-            // TIME_BASE, NUM_PMU, the station's ID and DATA_RATE
-            assert_eq!(rt; fields::u32_at(body, 0), Some(1_000_000));
-            assert_eq!(rt; fields::u16_at(body, 4), Some(1));
-            assert_eq!(rt; fields::u16_at(body, 22), Some(7734));
-            assert_eq!(rt; fields::u16_at(body, 436), Some(30));
-            Ok(())
-        }
-        _ => Err(Fail::new("not told as a configuration")),
+    let body = Frame::read(bytes.as_slice())?.config2()?;
+    assert_eq!(rt; body.len(), 438);
+    assert_eq!(rt; u32_at(body, 0), Some(1_000_000));
+    // behind TIME_BASE: NUM_PMU, the station's ID and DATA_RATE
+    for (at, word) in [(4, 1), (22, 7734), (436, 30)] {
+        assert_eq!(rt; u16_at(body, at), Some(word));
     }
+    Ok(())
 }
