@@ -4,6 +4,9 @@
     python3 tools/planted.py            all crates, and docs/PLANTED.md is written anew
     python3 tools/planted.py NAME..     these crates or bugs (as plan, plan/add_rate) alone; a table of them is printed,
                                         and no file is written
+    python3 tools/planted.py --log FILE ..
+                                        what `rt ci` or `rt must-fail` printed of these edits is taken from FILE, which has
+                                        to be of the same code, and only the others are tried
 
 `rt` has to be on the path. planted/BUGS has a line for each bug: its crate and label, its kind, and what it does.
 The edit itself is planted/CRATE/LABEL.edit or crates/CRATE/must-fail/LABEL.edit, in the format of the latter.
@@ -102,20 +105,20 @@ MISMATCH = re.compile(r"proofs/.*(the two types (first )?differ|the two indices|
 NAME = re.compile(r"proofs/.*: (record `Rattle|module `Rattle)")
 
 
-def try_crate(crate, room, bugs):
-    ran = subprocess.run(["rt", "must-fail", crate], cwd=room, stdout=subprocess.PIPE, stderr=subprocess.STDOUT, text=True, errors="replace")
-    by_name = {bug.name: bug for bug in bugs}
+def read_said(text, bugs):
+    """Reads what became of bugs from what `rt must-fail` or `rt ci` printed."""
+    by_name = {(bug.crate, name): bug for bug in bugs for name in (bug.label, bug.name)}
     bug = None
-    for line in ran.stdout.splitlines():
-        found = re.match(rf"(?:rt: )?must-fail {crate}/([A-Za-z0-9_.-]+)\.edit: (.*)", line)
+    for line in text.splitlines():
+        found = re.match(r"(?:rt: )?must-fail (\w+)/([A-Za-z0-9_.-]+)\.edit: (.*)", line)
         if found:
-            bug = by_name.get(found[1])
+            bug = by_name.get((found[1], found[2]))
             if bug:
-                bug.outcome = next((outcome for words, outcome in OUTCOMES if found[2].startswith(words)), "not tried")
-                bug.said = found[2]
+                bug.outcome = next((outcome for words, outcome in OUTCOMES if found[3].startswith(words)), "not tried")
+                bug.said = found[3]
         elif bug and bug.outcome == "bad edit":
             bug.said += "\n" + line
-    for bug in by_name.values():
+    for bug in bugs:
         if bug.outcome == "refused" and MISMATCH.search(bug.said):
             bug.outcome = "refused by a mismatch"
         if bug.outcome == "refused" and NAME.search(bug.said):
@@ -124,7 +127,12 @@ def try_crate(crate, room, bugs):
         found = re.search(r"error\[(linear-value-let-go)\]: ([^\n]*)", bug.said)
         if bug.outcome == "bad edit" and found:
             bug.outcome, bug.said = "refused", f"the compiler: {found[2]}"
-    if any(bug.outcome == "not tried" for bug in by_name.values()):
+
+
+def try_crate(crate, room, bugs):
+    ran = subprocess.run(["rt", "must-fail", crate], cwd=room, stdout=subprocess.PIPE, stderr=subprocess.STDOUT, text=True, errors="replace")
+    read_said(ran.stdout, bugs)
+    if any(bug.outcome == "not tried" for bug in bugs):
         print(ran.stdout, file=sys.stderr)
 
 
@@ -242,7 +250,9 @@ def page(subjects):
     return "\n".join(lines) + "\n"
 
 
-def main(names):
+def main(words):
+    logs = [words[at + 1] for at, word in enumerate(words[:-1]) if word == "--log"]
+    names = [word for at, word in enumerate(words) if word != "--log" and (at == 0 or words[at - 1] != "--log")]
     bugs = read_bugs()
     subjects = read_subjects(bugs)
     unknown = [it for it in names if not any(it in (bug.crate, bug.key) for bug in bugs.values())]
@@ -250,10 +260,14 @@ def main(names):
         print(f"{unknown[0]} is neither a bug nor a crate that has one", file=sys.stderr)
         return 1
     tried = [bug for bug in bugs.values() if not names or bug.crate in names or bug.key in names]
+    for log in logs:
+        with open(log, encoding="utf-8", errors="replace") as it:
+            read_said(it.read(), tried)
+    left = [bug for bug in tried if bug.outcome == "not tried"]
     with tempfile.TemporaryDirectory(prefix="planted-") as room:
-        copy_to(room, tried)
-        for crate in dict.fromkeys(bug.crate for bug in tried):
-            own = [bug for bug in tried if bug.crate == crate]
+        copy_to(room, left)
+        for crate in dict.fromkeys(bug.crate for bug in left):
+            own = [bug for bug in left if bug.crate == crate]
             try_crate(crate, room, own)
             print(f"{crate}: {counted(own)}", file=sys.stderr, flush=True)
     if names:
