@@ -7,13 +7,13 @@ use shift::{Shifted, Shifts};
 use std::test::Fail;
 
 // A refused call does nothing: the frame, which comes at the reading 5, is neither added nor taken.
-fn check_lengths<F: Feed>(feed: &mut F, frame: &[u8]) -> Result<(), Fail> {
-    check_short(feed, 5)?;
-    check_idle(feed)?;
-    tick(feed, 5)?;
-    check_short(feed, 5)?;
-    check_next(feed, 2, frame)?;
-    check_idle(feed)?;
+fn check_lengths<F: Feed + Drop>(mut feed: F, frame: &[u8]) -> Result<(), Fail> {
+    check_short(&mut feed, 5)?;
+    check_idle(&mut feed)?;
+    tick(&mut feed, 5)?;
+    check_short(&mut feed, 5)?;
+    check_next(&mut feed, 2, frame)?;
+    check_idle(&mut feed)?;
     Ok(())
 }
 
@@ -25,23 +25,22 @@ fn short_buffers_are_refused(rt: HostRuntime) -> Result<(), Fail> {
     let mut built = Recording::new(heap)?;
     built.record(5, 2, frame)?;
     let capture = Recorded::over(built.bytes());
-    let mut plain = capture;
-    check_lengths(&mut plain, frame)?;
-    let mut shifted = Shifted {
+    check_lengths(capture, frame)?;
+    let shifted = Shifted {
         feed: capture,
         map: Shifts::new([1; 16]),
     };
-    check_lengths(&mut shifted, frame)?;
-    let mut first = Joined {
+    check_lengths(shifted, frame)?;
+    let first = Joined {
         first: capture,
         second: Silent,
     };
-    check_lengths(&mut first, frame)?;
-    let mut second = Joined {
+    check_lengths(first, frame)?;
+    let second = Joined {
         first: Silent,
         second: capture,
     };
-    check_lengths(&mut second, frame)
+    check_lengths(second, frame)
 }
 
 #[test]

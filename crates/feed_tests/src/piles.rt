@@ -16,11 +16,6 @@ fn line(heap: Global, port: u8) -> Result<Recording, AllocError> {
     Ok(built)
 }
 
-// The line 1 is shifted by 60 seconds, and the line 2 by -7.
-fn shifts() -> Shifts {
-    Shifts::new([0, 60, -7, 0, 0, 0, 0, 0, 0, 0, 0, 0, 0, 0, 0, 0])
-}
-
 // That the frames of line 1, with these SOCs and check words, come before those of line 2.
 fn check_lines<F: Feed + Drop>(
     mut feed: F,
@@ -29,11 +24,10 @@ fn check_lines<F: Feed + Drop>(
 ) -> Result<(), Fail> {
     tick(&mut feed, 10)?;
     tick(&mut feed, 20)?;
-    for (soc, check_word) in first {
-        check_next(&mut feed, 1, &command(soc, check_word))?;
-    }
-    for (soc, check_word) in second {
-        check_next(&mut feed, 2, &command(soc, check_word))?;
+    for (port, frames) in [(1, first), (2, second)] {
+        for (soc, check_word) in frames {
+            check_next(&mut feed, port, &command(soc, check_word))?;
+        }
     }
     check_idle(&mut feed)?;
     Ok(())
@@ -54,15 +48,11 @@ fn shifts_and_joins_in_any_order(rt: HostRuntime) -> Result<(), Fail> {
     let two = line(heap, 2)?;
     let one = Recorded::over(one.bytes());
     let two = Recorded::over(two.bytes());
+    // the line 1 is shifted by 60 seconds, and the line 2 by -7
+    let map = Shifts::new([0, 60, -7, 0, 0, 0, 0, 0, 0, 0, 0, 0, 0, 0, 0, 0]);
     let joined_shifted = Joined {
-        first: Shifted {
-            feed: one,
-            map: shifts(),
-        },
-        second: Shifted {
-            feed: two,
-            map: shifts(),
-        },
+        first: Shifted { feed: one, map },
+        second: Shifted { feed: two, map },
     };
     check_lines(joined_shifted, LATER, EARLIER)?;
     let shifted_joined = Shifted {
@@ -70,7 +60,7 @@ fn shifts_and_joins_in_any_order(rt: HostRuntime) -> Result<(), Fail> {
             first: one,
             second: two,
         },
-        map: shifts(),
+        map,
     };
     check_lines(shifted_joined, LATER, EARLIER)?;
     let joined_joined = Joined {
@@ -94,11 +84,11 @@ fn shifts_and_joins_in_any_order(rt: HostRuntime) -> Result<(), Fail> {
                     first: Silent,
                     second: one,
                 },
-                map: shifts(),
+                map,
             },
             second: two,
         },
-        map: shifts(),
+        map,
     };
     check_lines(shifted_twice, MUCH_LATER, EARLIER)
 }
