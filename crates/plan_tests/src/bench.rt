@@ -3,6 +3,8 @@ use common::{Fault, IdCode};
 use config::Station;
 use plan::Plan;
 use std::alloc::{AllocError, Global};
+use std::process::Abort;
+use std::test::Fail;
 
 // A plan with the code 0102h, and its buffer, which is filled with 55h.
 #[derive(Drop)]
@@ -19,23 +21,50 @@ impl Bench {
         Ok(Bench { heap, plan, buffer })
     }
 
-    // Adds a frame: the number of its port. A refusal's number and 100 more: as a `Result` the tables
-    // would give other values.
-    pub(crate) fn add_frame(&mut self, frame: &[u8]) -> u8 {
+    // Adds a frame, and checks what comes of it: the number of its port, or that of a refusal, which changes no
+    // byte, and 100 more. As a `Result` the tables would give other values.
+    pub(crate) fn check_frame(
+        &mut self,
+        rt: &impl Abort,
+        frame: &[u8],
+        outcome: u8,
+    ) -> Result<(), Fail> {
+        let before = self.buffer.clone()?;
         match self.plan.add(frame, self.buffer.as_mut_slice()) {
-            Ok(port) => port.0,
-            Err(fault) => fault.number().saturating_add(100),
+            Ok(port) => assert_eq!(rt; port.0, outcome),
+            Err(fault) => {
+                assert_eq!(rt; fault.number().saturating_add(100), outcome);
+                assert!(rt; self.buffer.as_slice() == before.as_slice());
+            }
         }
+        Ok(())
     }
 
-    // Adds the sound frame of a sender and its stations.
-    pub(crate) fn add(&mut self, id: u16, stations: &[Station]) -> Result<u8, AllocError> {
+    // The same for the sound frame of a sender and its stations.
+    pub(crate) fn check_add(
+        &mut self,
+        rt: &impl Abort,
+        id: u16,
+        stations: &[Station],
+        outcome: u8,
+    ) -> Result<(), Fail> {
         let frame = line(self.heap, id, stations)?;
-        Ok(self.add_frame(frame.as_slice()))
+        self.check_frame(rt, frame.as_slice(), outcome)
     }
 
     pub(crate) fn publish(&mut self, reading: u64) -> Result<usize, Fault> {
         self.plan.publish(reading, self.buffer.as_mut_slice())
+    }
+
+    // Publishes at this reading, and checks the length of the configuration.
+    pub(crate) fn check_publish(
+        &mut self,
+        rt: &impl Abort,
+        reading: u64,
+        len: usize,
+    ) -> Result<(), Fail> {
+        assert_eq!(rt; self.publish(reading)?, len);
+        Ok(())
     }
 
     // Cuts the buffer, or makes it longer.

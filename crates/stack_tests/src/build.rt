@@ -32,6 +32,16 @@ pub(crate) fn plan(heap: Global, id: u16, lines: &[&str], buffer: &mut [u8]) -> 
     Ok(plan)
 }
 
+// A plan of boxes whose configurations were left in buffers; its own is left in another.
+pub(crate) fn plan_over(id: u16, boxes: &[&[u8]], buffer: &mut [u8]) -> Result<Plan, Fault> {
+    let mut plan = Plan::begin(IdCode(id), 1);
+    for frame in boxes {
+        plan.add(frame, buffer)?;
+    }
+    plan.publish(0, buffer)?;
+    Ok(plan)
+}
+
 pub(crate) fn lower<'a>(port: u8, plan: &Plan, capture: &'a [u8]) -> Lower<'a> {
     Stacked::open(
         Port(port),
@@ -42,9 +52,11 @@ pub(crate) fn lower<'a>(port: u8, plan: &Plan, capture: &'a [u8]) -> Lower<'a> {
     )
 }
 
-// A capture of these records: the reading, the port and the frame of each. Beside that of `feed_tests`, where a
-// frame is one byte and not hexadecimal text.
-pub(crate) fn recording(heap: Global, records: &[(u64, u8, &str)]) -> Result<Recording, Fail> {
+// A record of a capture: the reading, the port and the frame.
+pub(crate) type Record<'a> = (u64, u8, &'a str);
+
+// A capture of these records. Beside that of `feed_tests`, where a frame is one byte and not hexadecimal text.
+pub(crate) fn recording(heap: Global, records: &[Record<'_>]) -> Result<Recording, Fail> {
     let mut built = Recording::new(heap)?;
     for (reading, port, frame) in records {
         built.record(*reading, *port, from_hex(heap, frame)?.as_slice())?;

@@ -1,13 +1,27 @@
 // Boxes that are shut: nothing ever waits.
 use crate::build::{FIRST, OPENING, plan, recording};
+use crate::steps::{Step, check_steps};
 use common::{IdCode, Port};
-use feed_checks::{check_idle, check_short, tick};
+use feed::Feed;
+use feed_checks::check_short;
 use fixtures::number;
 use plan::Plan;
 use policy::Absolute;
 use recorded::Recorded;
 use stacked::Stacked;
+use std::alloc::Global;
 use std::test::Fail;
+
+// That nothing waits at a feed whenever it is asked.
+fn check_silence<F: Feed>(heap: Global, feed: &mut F) -> Result<(), Fail> {
+    check_short(feed, OPENING)?;
+    let steps: [Step<'_>; 3] = [
+        (OPENING, None),
+        (OPENING + 1_000_000, None),
+        (u64::MAX, None),
+    ];
+    check_steps(heap, feed, 1, &steps)
+}
 
 #[test]
 fn nothing_waits_at_a_shut_one(rt: HostRuntime) -> Result<(), Fail> {
@@ -35,13 +49,9 @@ fn nothing_waits_at_a_shut_one(rt: HostRuntime) -> Result<(), Fail> {
             Absolute::new(wait),
             reading,
         );
-        assert_eq!(rt; number(feed.check()), refusal);
-        check_short(&mut feed, OPENING)?;
-        for clock in [OPENING, OPENING + 1_000_000, u64::MAX] {
-            tick(&mut feed, clock)?;
-            check_idle(&mut feed)?;
-        }
-        assert_eq!(rt; number(feed.check()), refusal);
+        let before = number(feed.check());
+        check_silence(heap, &mut feed)?;
+        assert_eq!(rt; [before, number(feed.check())], [refusal; 2]);
     }
     Ok(())
 }

@@ -57,6 +57,24 @@ pub(crate) fn advance<F: Feed>(
     Ok(10)
 }
 
+// A tick with this reading, how many frames are accepted, and the frame that is then written, if one is to be.
+pub(crate) type Advance<'a> = (u64, u32, Option<&'a str>);
+
+pub(crate) fn check_advances<F: Feed>(
+    rt: &impl Abort,
+    heap: Global,
+    upper: &mut Concentrator<F, Absolute>,
+    steps: &[Advance<'_>],
+) -> Result<(), Fail> {
+    for (reading, accepted, frame) in steps {
+        assert_eq!(rt; advance(upper, *reading)?, *accepted, "at {reading}");
+        if let Some(frame) = *frame {
+            check_written(rt, heap, upper, frame)?;
+        }
+    }
+    Ok(())
+}
+
 // That this frame is the next that is written.
 pub(crate) fn check_written<F: Feed>(
     rt: &impl Abort,
