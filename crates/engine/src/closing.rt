@@ -41,11 +41,7 @@ impl Engine {
         ensures near { result ≤ slot_limit (setting_of self.now).rate }
         ensures up { from ≤ result }
     {
-        // Most often the slot there waits for a frame; then the clock has not to be asked.
-        if !self.is_complete(from) {
-            return from;
-        }
-        let end = self.terms.rate.last_slot_by(self.latest + EARLIEST) + 1;
+        let end = self.reach + 1;
         (from..end)
             .find(|slot| !self.is_complete(*slot))
             .unwrap_or(from.max(end))

@@ -1,22 +1,24 @@
 ghost use Rattle.std.specs.Prelude.{◌≡◌, ◌+◌, ◌≤◌, cond, length, sum};
 ghost use Rattle.common.specs.Readings.{last_reading};
-ghost use Rattle.engine.specs.Limits.{most_frames, slot_limit, window};
-ghost use Rattle.slots.specs.Slots.{frames_of};
+ghost use Rattle.engine.specs.Limits.{earliest, most_frames, slot_limit, window};
+ghost use Rattle.slots.specs.Slots.{frames_of, last_slot_at};
 
 use crate::admit::VERDICTS;
 use crate::ring::SLOTS;
 use crate::terms::Terms;
 use cells::Cell;
 
-// The state of a concentrator besides its feed and its policy: the latest reading, the lowest open
-// slot, the number of slots written, whether a ticket is out, how many frames were judged and given
-// each number, and the cells of the 32 slots from the oldest unwritten one on. A ticket that is out
-// needs no number of its own: it is of the oldest unwritten slot.
+// The state of a concentrator besides its feed and its policy: the latest reading, the last slot that a
+// frame may have by then, the lowest open slot, the number of slots written, whether a ticket is out,
+// how many frames were judged and given each number, and the cells of the 32 slots from the oldest
+// unwritten one on. A ticket that is out needs no number of its own: it is of the oldest unwritten slot.
 // No model: its value would be the state of `specs/States.antt`, which holds functions, and these have no code.
 #[derive(Drop)]
 pub struct Engine {
     pub(crate) terms: Terms,
     pub(crate) latest: u64,
+    // Kept, since it costs divisions by the rate, and each frame is held against it.
+    pub(crate) reach: u64,
     pub(crate) front: u64,
     pub(crate) written: u64,
     pub(crate) ticket_out: bool,
@@ -25,6 +27,7 @@ pub struct Engine {
     pub(crate) tally: [u64; VERDICTS],
     pub(crate) ring: [Cell; SLOTS],
     ghost time: { latest ≤ last_reading },
+    ghost reached: { reach ≡ last_slot_at (frames_of terms.rate) (latest + earliest) },
     ghost order: { terms.first + written + cond ticket_out 1 0 ≤ front },
     ghost near: { front ≤ slot_limit (frames_of terms.rate) },
     ghost numbers: { length tally ≡ 31 },

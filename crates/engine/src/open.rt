@@ -9,6 +9,7 @@ ghost use Rattle.plan.specs.Views.{plan_of};
 ghost use Rattle.slots.specs.Slots.{frames_of};
 
 use crate::admit::VERDICTS;
+use crate::closing::EARLIEST;
 use crate::engine::Engine;
 use crate::ring::SLOTS;
 use crate::terms::Terms;
@@ -58,9 +59,11 @@ impl Engine {
         ensures { state_of result ≡ fresh terms reading }
     {
         let first = terms.first;
+        let reach = terms.rate.last_slot_by(reading + EARLIEST);
         Engine {
             terms,
             latest: reading,
+            reach,
             front: first,
             written: 0,
             ticket_out: false,

@@ -2,6 +2,7 @@ ghost use Rattle.engine.specs.States.{check_said, tick_said, ticked};
 ghost use Rattle.engine.specs.Views.{state_of};
 ghost use Rattle.std.specs.Prelude.{◌≡◌};
 
+use crate::closing::EARLIEST;
 use crate::engine::Engine;
 use common::{Fault, LAST_READING};
 use policy::Policy;
@@ -29,6 +30,7 @@ impl Engine {
         }
         let latest = reading.max(self.latest);
         self.latest = latest;
+        self.reach = self.terms.rate.last_slot_by(latest + EARLIEST);
         self.settle(policy);
         Ok(latest)
     }

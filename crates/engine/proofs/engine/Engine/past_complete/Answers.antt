@@ -15,9 +15,9 @@ returns-clause-value c =
     let t = complete g (box_of s) in
     let f = c.args.from in
     let k = upto g (s.latest + 100000) in
-    let end = c.last_slot_by-end.ensures.answer in
+    let end = s.reached in
     let found =
-    find_from_yields_List (λ n. not (t n)) _ _ c.find.result c.find.ensures.ran (YieldsList-from_range f (c.last_slot_by-end.result + 1) (k - f) refl (omega (arith, end))) (λ x b q r. search (rules, tests)) in
+    find_from_yields_List (λ n. not (t n)) _ _ c.find.result c.find.ensures.ran (YieldsList-from_range f (s.reach + 1) (k - f) refl (omega (arith, end))) (λ x b q r. search (rules, tests)) in
     c.unwrap_or.ensures ∙ told-beyond t c.find.result (k - f) f c.max.result found (omega (arith, end, c.max.ensures))
 
 pub returns-clause-near : goal.returns-clause-near
@@ -30,10 +30,3 @@ returns-clause-near c =
     let within = beyond-within (complete g (box_of s)) (k - f) f in
     let low : k ≤ 4000000001 * frames_of s.terms.rate = near (frames_of s.terms.rate) (s.latest + 100000) s.terms.rate.some (omega (arith, s.time)) in
     omega (arith, value, within, low, c.requires)
-
-pub returns-then-not-is_complete-clause-value : goal.returns-then-not-is_complete-clause-value
-returns-then-not-is_complete-clause-value c =
-    let s = c.args.self.now in
-    let t = complete (setting_of s) (box_of s) in
-    let waits : t c.args.from ≡ false = search rules in
-    sym (beyond-stays t (upto (setting_of s) (s.latest + 100000) - c.args.from) c.args.from waits)
