@@ -17,7 +17,7 @@ use cells::Cell;
 pub struct Engine {
     pub(crate) terms: Terms,
     pub(crate) latest: u64,
-    // Kept, since it costs divisions by the rate, and each frame is held against it.
+    // Kept, since each frame is held against it, and only a tick moves it.
     pub(crate) reach: u64,
     pub(crate) front: u64,
     pub(crate) written: u64,
