@@ -64,7 +64,7 @@ FAST_CONFIG = config(7750, 520000, 50, station("Station D", 7750, 0, ["VD1"], []
 COMMAND = frame(0xAA42, 7800, 1149580800, 0, 40000, bytes.fromhex("0002"))
 NO_SYNC = b"\xAB" + COMMAND[1:]
 
-# What the sample holds besides the data of its senders: the configurations, one worked data frame, and frames of no use.
+# What each sample holds besides the data of its senders: the configurations, one worked data frame, and frames of no use.
 BESIDES = [
     (1149577200463900, 0, WORKED_CONFIG),
     (1149577200501200, 1, SMALL_CONFIG),
