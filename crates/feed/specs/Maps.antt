@@ -1,7 +1,7 @@
 -- Layers that change the frames of a feed one by one: each keeps its line and its length.
 use Rattle.std.specs.Prelude.{◌≡◌, ℕ, ◌≤◌, List, length}
 use Rattle.std.proofs.Common.{arith}
-use Rattle.feed.specs.Feeds.{Waiting, Behaviour, Carried, Meaning}
+use Rattle.feed.specs.Feeds.{Waiting, Behaviour, Carried, Lawful, Meaning}
 use Rattle.feed.specs.Changes.{each, each-lawful}
 
 -- what becomes of a frame of a line, with as many bytes as it had
@@ -25,7 +25,10 @@ carried-changed f w c =
     let t : length w.bytes ≤ 1040 = c.few in
     record { line = c.line; some = omega (arith, e); few = omega (arith, e) }
 
+-- any such layer over a lawful feed is lawful
+pub mapped-lawful : (f : Map) (m : Behaviour) → Lawful m → Lawful (mapped f m)
+mapped-lawful f = each-lawful (changed f) (carried-changed f)
+
 -- what a feed means under a layer
 abbrev pub through : Map → Meaning → Meaning
-through f m =
-    record { waits = mapped f m.waits; lawful = each-lawful (changed f) (carried-changed f) m.waits m.lawful }
+through f m = record { waits = mapped f m.waits; lawful = mapped-lawful f m.waits m.lawful }

@@ -4,7 +4,7 @@ use Rattle.std.proofs.Common.{arith}
 use Rattle.listing.specs.declared.build.Outcome.{Outcome}
 use Rattle.listing.specs.declared.build.Outcome.TheVariants as outcome
 use Rattle.feed.specs.Changes.{each, each-lawful}
-use Rattle.feed.specs.Feeds.{Waiting, Behaviour, Carried, Meaning}
+use Rattle.feed.specs.Feeds.{Waiting, Behaviour, Carried, Lawful, Meaning}
 
 -- the port that a line fills, and 15 if it fills none
 abbrev pub filled_by : Option Outcome → ℕ
@@ -30,7 +30,10 @@ all_led lines = each (led lines)
 pub carried-led : (lines : List Outcome) (w : Waiting) → Carried w → Carried (led lines w)
 carried-led lines w c = record { line = omega arith; some = c.some; few = c.few }
 
+-- a lawful feed whose lines are led to ports is lawful
+pub led-lawful : (lines : List Outcome) (m : Behaviour) → Lawful m → Lawful (all_led lines m)
+led-lawful lines = each-lawful (led lines) (carried-led lines)
+
 -- what a feed means once its lines are led to ports
 abbrev pub wired : List Outcome → Meaning → Meaning
-wired lines m =
-    record { waits = all_led lines m.waits; lawful = each-lawful (led lines) (carried-led lines) m.waits m.lawful }
+wired lines m = record { waits = all_led lines m.waits; lawful = led-lawful lines m.waits m.lawful }
