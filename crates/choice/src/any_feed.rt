@@ -17,7 +17,7 @@ use stacked::Stacked;
 // No frames, or those of captures: of one, of two joined, of one under shifts, or of one by way of a
 // concentrator that stands under the box.
 // Each is as large as that concentrator: on the heap it would need an allocator.
-#[derive(Drop)]
+#[derive(Clone, Copy)]
 pub enum AnyFeed<'a> {
     Silent(Silent),
     Recorded(Recorded<'a>),

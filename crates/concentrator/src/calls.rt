@@ -1,3 +1,4 @@
+ghost use Rattle.combined.specs.Frames.{slot_length};
 ghost use Rattle.concentrator.specs.Calls.{admit_said, admitted, frame_of, length_by, lent, number_by, pull_buffer, pull_said, pulled as pulled_to, take_said, tick_said, ticked, write_said, wrote};
 ghost use Rattle.concentrator.specs.Wholes.{whole};
 ghost use Rattle.std.specs.Prelude.{◌≡◌, ◌≤◌, length, IfOk, OnErr};
@@ -73,6 +74,14 @@ impl<F: Feed, P: Policy> Concentrator<F, P> {
     {
         let number = self.engine.take()?;
         Ok(Ticket { number })
+    }
+
+    // The length of each frame that is written: a longer buffer changes nothing.
+    pub fn frame_len(&self) -> usize
+        ensures length { result ≡ slot_length (whole self.now).setting.ports }
+        ensures few { result ≤ 1040 }
+    {
+        self.engine.frame_len()
     }
 
     // Writes the slot of the ticket, which is spent in every case, to the buffer's front.

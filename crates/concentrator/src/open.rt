@@ -17,11 +17,11 @@ impl<F: Feed, P: Policy> Concentrator<F, P> {
         ensures shut { (whole result).shut ≡ open_fault (plan_of plan.now) (P.bound policy) reading }
         ensures opens { (whole result).shut ≡ None → whole result ≡ begins (plan_of plan.now) reading (P.closing policy) (F.meaning feed).waits }
     {
-        let engine = Engine::open(plan, &policy, reading);
+        // the engine first, so that it is opened where it stands
         Concentrator {
+            engine: Engine::open(plan, &policy, reading),
             feed,
             policy,
-            engine,
         }
     }
 
@@ -30,5 +30,17 @@ impl<F: Feed, P: Policy> Concentrator<F, P> {
         ensures { result ≡ unless_shut (whole self.now).shut (Ok tt) }
     {
         self.engine.check()
+    }
+}
+
+impl<F: Feed + Drop, P: Policy + Drop> Concentrator<F, P> {
+    // Opens it anew, over another feed and policy, where it stands: a new one would be moved there.
+    pub fn reopen(&mut self, plan: &Plan, feed: F, policy: P, reading: u64)
+        ensures shut { (whole self.new).shut ≡ open_fault (plan_of plan.now) (P.bound policy) reading }
+        ensures opens { (whole self.new).shut ≡ None → whole self.new ≡ begins (plan_of plan.now) reading (P.closing policy) (F.meaning feed).waits }
+    {
+        self.engine = Engine::open(plan, &policy, reading);
+        self.feed = feed;
+        self.policy = policy;
     }
 }

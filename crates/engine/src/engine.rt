@@ -13,7 +13,7 @@ use cells::Cell;
 // how many frames were judged and given each number, and the cells of the 32 slots from the oldest
 // unwritten one on. A ticket that is out needs no number of its own: it is of the oldest unwritten slot.
 // No model: its value would be the state of `specs/States.antt`, which holds functions, and these have no code.
-#[derive(Drop)]
+#[derive(Clone, Copy)]
 pub struct Engine {
     pub(crate) terms: Terms,
     pub(crate) latest: u64,

@@ -2,23 +2,35 @@ ghost use Rattle.concentrator.specs.Wholes.{begins, whole};
 ghost use Rattle.engine.specs.Calls.{open_fault, unless_shut};
 ghost use Rattle.plan.specs.Views.{plan_of};
 ghost use Rattle.stacked.specs.Laws.{DrainsAll, PullsByCall, SilentIfShut, TicksByCall};
-ghost use Rattle.std.specs.Prelude.{◌≡◌, ◌%◌, ◌≤◌, None, Ok};
+ghost use Rattle.std.specs.Prelude.{◌≡◌, ◌%◌, ◌≤◌, None, Ok, ⊤};
 
 use common::{Fault, Port};
 use concentrator::Concentrator;
 use feed::Feed;
 use plan::Plan;
 use policy::Policy;
+use std::alloc::AllocError;
 
 // A concentrator that stands under another, and is called through its feed's calls alone: so no ticket
 // is out. Its frames come by one line.
 // No model: its value would hold what the feed below means and when slots close, and functions have no code.
-#[derive(Drop)]
+#[derive(Copy, Drop)]
 pub struct Stacked<F: Feed, P: Policy> {
     pub(crate) concentrator: Concentrator<F, P>,
     pub(crate) port: Port,
     ghost free: { (whole concentrator).shut ≡ None → (whole concentrator).box.out ≡ None },
     ghost line: { port.0 ≤ 15 },
+}
+
+// Written out, since a generic type with ghost fields cannot derive it.
+impl<F: Feed + Copy, P: Policy + Copy> Clone for Stacked<F, P> {
+    ghost is_clone = { λ stacked copy. copy ≡ stacked };
+
+    ghost is_infallible = { λ _. ⊤ };
+
+    fn clone(&self) -> Result<Self, AllocError> {
+        Ok(*self)
+    }
 }
 
 impl<F: Feed, P: Policy> Stacked<F, P> {

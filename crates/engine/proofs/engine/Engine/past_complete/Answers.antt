@@ -1,11 +1,11 @@
-use Rattle.std.proofs.Common.{◌≡◌, ◌+◌, ◌-◌, ◌*◌, ◌≤◌, false, not, sym, ◌∙◌, refl, arith, rules, tests}
+use Rattle.std.proofs.Common.{◌+◌, ◌-◌, ◌*◌, ◌≤◌, not, ◌∙◌, refl, arith, rules, tests}
 use Rattle.std.proofs.lemmas.Iterator.{YieldsList-from_range}
 use Rattle.std.proofs.lemmas.Iterator.Search.{find_from_yields_List}
 use Rattle.slots.specs.Slots.{frames_of}
 use Rattle.engine.specs.Boxes.{upto}
 use Rattle.engine.specs.Closing.{complete}
 use Rattle.engine.specs.Views.{setting_of, box_of}
-use Rattle.engine.proofs.Fronts.{near, told-beyond, beyond-stays, beyond-within}
+use Rattle.engine.proofs.Fronts.{near, told-beyond, beyond-within}
 use Rattle.engine.proofs.engine.Engine.past_complete.Goals as goal
 
 pub returns-clause-value : goal.returns-clause-value
