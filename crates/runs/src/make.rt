@@ -1,4 +1,4 @@
-ghost use Rattle.concentrator.specs.Calls.{frame_of, lent, pull_buffer, pull_said, pulled, take_said, write_said, wrote};
+ghost use Rattle.concentrator.specs.Calls.{frame_of, lent, pull_buffer, pull_said, pulled, take_said, tick_said, ticked, write_said, wrote};
 ghost use Rattle.runs.specs.Entries.{due, frame_by, front_by};
 ghost use Rattle.laws.specs.Journal.{Journal, ◌▹◌};
 ghost use Rattle.runs.specs.Events.{event_of};
@@ -13,11 +13,23 @@ use crate::entry::{Entry, PulledFrame};
 use crate::host::Host;
 use crate::tickets::ticket_for;
 use common::Fault;
-use feed::Feed;
+use feed::{Feed, LONGEST_FRAME};
 use policy::Policy;
 use std::alloc::{AllocError, Global};
 
 impl<F: Feed, P: Policy> Host<F, P> {
+    // Ticks with a scratch buffer, of which no more than the longest frame is lent. Out of line, since a function
+    // pays at its entry for all that it keeps on the stack.
+    #[inline(never)]
+    fn tick(&mut self, reading: u64, room: usize) -> Result<(), Fault>
+        ensures answer { result ≡ tick_said (standing self.old) reading (replicate room 0) }
+        ensures next { standing self.new ≡ ticked (standing self.old) reading (replicate room 0) }
+    {
+        let mut scratch = [0; LONGEST_FRAME];
+        self.concentrator
+            .tick(reading, &mut scratch[..room.min(LONGEST_FRAME)])
+    }
+
     // Pulls into a new buffer. That without memory nothing changes stands in each: an invariant speaks of one
     // state.
     fn pull(&mut self, heap: Global, room: usize) -> Result<Result<PulledFrame, Fault>, AllocError>
@@ -25,7 +37,7 @@ impl<F: Feed, P: Policy> Host<F, P> {
         ensures next { IfOk result (λ a. standing self.new ≡ pulled (standing self.old) (replicate room 0)) }
         ensures err { OnErr result (standing self.new ≡ standing self.old) }
     {
-        let mut frame = vec![in heap; 0; room]?;
+        let mut frame = vec![in heap; 0; room.min(LONGEST_FRAME)]?;
         let pulled = self.concentrator.pull(&mut frame);
         Ok(pulled.map(|pulled| {
             frame.truncate(pulled.len);
@@ -67,7 +79,7 @@ impl<F: Feed, P: Policy> Host<F, P> {
         ensures next { IfOk result (λ a. standing self.new ≡ wrote (standing self.old) number room) }
         ensures err { OnErr result (standing self.new ≡ standing self.old) }
     {
-        let mut frame = vec![in heap; 0; room]?;
+        let mut frame = vec![in heap; 0; room.min(self.concentrator.frame_len())]?;
         let ticket = ticket_for(&mut self.ticket, number);
         let written = self.concentrator.write(ticket, &mut frame);
         Ok(written.map(|written| {
@@ -84,15 +96,11 @@ impl<F: Feed, P: Policy> Host<F, P> {
         ensures roomless { takes_room call.entry ≡ false → IsOk result }
     {
         Ok(match call {
-            Call::Tick { reading, room } => {
-                let mut scratch = vec![in heap; 0; room]?;
-                let answer = self.concentrator.tick(reading, &mut scratch);
-                Entry::Tick {
-                    reading,
-                    room,
-                    answer,
-                }
-            }
+            Call::Tick { reading, room } => Entry::Tick {
+                reading,
+                room,
+                answer: self.tick(reading, room),
+            },
             Call::Admit { port, frame } => Entry::Admit {
                 port,
                 frame,

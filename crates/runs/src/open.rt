@@ -33,6 +33,18 @@ impl<F: Feed, P: Policy> Host<F, P> {
 }
 
 impl<F: Feed + Drop, P: Policy + Drop> Host<F, P> {
+    // Opens a concentrator in place of the one before, whose ticket is spent if it is out. Where the host stands,
+    // since a new one would be moved there.
+    pub fn reopen(&mut self, plan: &Plan, feed: F, policy: P, reading: u64)
+        ensures shut { (standing self.new).shut ≡ open_fault (plan_of plan.now) (P.bound policy) reading }
+        ensures opens { (standing self.new).shut ≡ None → JustOpened (plan_of plan.now) (P.closing policy) (P.bound policy) reading (F.meaning feed).waits (standing self.new) }
+    {
+        if let Some(ticket) = self.ticket.take() {
+            let _ = self.concentrator.write(ticket, &mut []);
+        }
+        self.concentrator.reopen(plan, feed, policy, reading);
+    }
+
     // Lets the host go: a ticket that is still out is spent, without a frame.
     pub fn close(self) {
         let Host {

@@ -28,7 +28,8 @@ impl<F: Feed, P: Policy> Host<F, P> {
         ensures goes_on { IfOk result (λ journal. (o : Opening) (before : Journal) → Reached o before (standing self.old) → Reached o (onto before (events_of (entries_of journal))) (standing self.new)) }
         ensures err { OnErr result (LeftBySome (standing self.old) calls.now (standing self.new)) }
     {
-        let mut journal = Vec::new(heap);
+        // of the length that it will have: a list of a call or two is made for each slot
+        let mut journal = Vec::with_capacity(heap, calls.len())?;
         for call in calls {
             let entry = self.make(heap, *call)?;
             journal.push(entry)?;

@@ -43,7 +43,7 @@ returns-clause-law g c o before r = kept_by o (returns-clause-goes_on g c o befo
 pub returns-in_err-entry-clause-err : goal.returns-in_err-entry-clause-err
 returns-in_err-entry-clause-err g c =
     let same : standing c.make.new.self ≡ standing c.loop-call.self = search rules in
-    stopped c.from_residual.result (left-by (standing c.args.self.now) c.args.calls.now (standing c.make.new.self) c.loop-call.call-index (same ∙ c.loop-call.invariant.left))
+    stopped c.from_residual-in_err-entry.result (left-by (standing c.args.self.now) c.args.calls.now (standing c.make.new.self) c.loop-call.call-index (same ∙ c.loop-call.invariant.left))
 
 pub returns-in_err-push-clause-err : goal.returns-in_err-push-clause-err
 returns-in_err-push-clause-err g c =
