@@ -20,7 +20,8 @@ impl EmptyRun {
 
     // Takes the line, if its slot is the next one of the run. Answers whether it is.
     pub fn take(&mut self, line: SlotLine) -> bool {
-        let follows = line.whose == self.first.whose && self.last.checked_add(1) == Some(line.slot);
+        let follows = line.whose.is_same(self.first.whose)
+            && self.last.checked_add(1) == Some(line.slot);
         if follows {
             self.last = line.slot;
         }

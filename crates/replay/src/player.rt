@@ -48,44 +48,52 @@ impl<'a, F: Feed> Player<'a, F> {
         }
     }
 
-    // Makes a call and takes, and reports both. The call that is due then: slots that are closed are
-    // written before a frame is pulled, and frames are pulled until none waits.
+    // Reports the entry of a call. Answers whether frames may wait after it.
+    fn report(&mut self, rt: &impl Print, entry: Entry) -> anyhow::Result<bool> {
+        match entry {
+            Entry::Tick {
+                reading,
+                answer,
+                ..
+            } => {
+                answer.context("refused")?;
+                self.clock = reading;
+            }
+            Entry::Pull {
+                answer: Err(Fault::NothingWaits),
+                ..
+            } => return Ok(false),
+            Entry::Pull { answer, .. } => {
+                let pulled = answer.context("refused")?;
+                self.report.pulled(rt, self.clock, &pulled)?;
+            }
+            Entry::Write { ticket, answer, .. } => {
+                let frame = answer.context("refused")?;
+                self.report.written(
+                    rt,
+                    WrittenSlot {
+                        slot: ticket,
+                        reading: self.clock,
+                        frame: frame.as_slice(),
+                    },
+                )?;
+            }
+            _ => {}
+        }
+        Ok(true)
+    }
+
+    // Makes a call, reports it, and takes. The call that is due then: slots that are closed are written before
+    // a frame is pulled, and frames are pulled until none waits. One at a time: a journal for each two of them
+    // costs as much as the slot that they write.
     fn make(&mut self, rt: &impl Print, call: Call) -> anyhow::Result<Option<Call<'static>>> {
         let room = LONGEST_FRAME;
-        let mut due = Some(Call::Pull { room });
-        for entry in self.host.run(self.heap, &[call, Call::Take])? {
-            match entry {
-                Entry::Tick {
-                    reading,
-                    answer,
-                    ..
-                } => {
-                    answer.context("refused")?;
-                    self.clock = reading;
-                }
-                Entry::Pull {
-                    answer: Err(Fault::NothingWaits),
-                    ..
-                } => due = None,
-                Entry::Pull { answer, .. } => self
-                    .report
-                    .pulled(rt, self.clock, &answer.context("refused")?)?,
-                Entry::Write { ticket, answer, .. } => {
-                    let frame = answer.context("refused")?;
-                    self.report.written(
-                        rt,
-                        WrittenSlot {
-                            slot: ticket,
-                            reading: self.clock,
-                            frame: frame.as_slice(),
-                        },
-                    )?;
-                }
-                Entry::Take { answer: Ok(ticket) } => due = Some(Call::Write { ticket, room }),
-                _ => {}
-            }
-        }
-        Ok(due)
+        let entry = self.host.make(self.heap, call)?;
+        let may_wait = self.report(rt, entry)?;
+        Ok(match self.host.make(self.heap, Call::Take)? {
+            Entry::Take { answer: Ok(ticket) } => Some(Call::Write { ticket, room }),
+            _ => may_wait.then_some(Call::Pull { room }),
+        })
     }
 
     // Ticks, and makes the calls that are due then.

@@ -179,15 +179,14 @@ impl<'a> Report<'a> {
 
     // Shows the frame that was written for a slot.
     pub fn written(&mut self, rt: &impl Print, written: WrittenSlot) -> anyhow::Result<()> {
-        let present = self
-            .accepted
-            .remove(&written.slot)
-            .unwrap_or(Present::none());
+        // a slot stands there once a port has a frame in it
+        let present = self.accepted.remove(&written.slot);
         if let Output::Hex = self.output {
             let hex = HexLine(written.frame);
             println!(rt; "{hex}")?;
         }
-        self.show(rt, written, Whose::Own(present), present.is_none())
+        let whose = Whose::Own(present.unwrap_or(Present::none()));
+        self.show(rt, written, whose, present.is_none())
     }
 
     // Prints what was put off.

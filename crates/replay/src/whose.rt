@@ -14,6 +14,13 @@ pub enum Whose {
     },
 }
 
+impl Whose {
+    // Whether two slots without a port are of the same: there are no ports to be compared.
+    pub fn is_same(self, other: Whose) -> bool {
+        matches!((self, other), (Whose::Own(_), Whose::Own(_))) || self == other
+    }
+}
+
 impl fmt::Display for Whose {
     fn fmt<W: fmt::Write>(&self, f: &mut fmt::Formatter<W>) -> fmt::Result {
         match self {
