@@ -4,6 +4,8 @@ use crate::draft::Draft;
 use crate::source::Source;
 use crate::trouble::Trouble;
 use choice::{AnyFeed, AnyPolicy};
+use common::Fault;
+use plan::Plan;
 use runs::Host;
 use std::alloc::{AllocError, Global};
 
@@ -25,7 +27,27 @@ impl<'a> Session<'a> {
         })
     }
 
-    // Opens a box in place of the one before.
+    // Opens the first box. Out of line, as `open` is: a function pays at its entry for all that it keeps on the
+    // stack, and here that is two hosts.
+    #[inline(never)]
+    fn open_first(
+        &mut self,
+        plan: &Plan,
+        lower: &Plan,
+        policy: AnyPolicy,
+        source: &'a Source,
+        reading: u64,
+    ) -> Result<(), Fault> {
+        let host = Host::open(plan, source.feed(lower), policy, reading);
+        let verdict = host.check();
+        if let Some(before) = self.opened.replace(host) {
+            before.close();
+        }
+        verdict
+    }
+
+    // Opens a box in place of the one before, where that stands: to move both would cost more than all else.
+    #[inline(never)]
     fn open(
         &mut self,
         policy: AnyPolicy,
@@ -33,13 +55,14 @@ impl<'a> Session<'a> {
         reading: u64,
     ) -> Result<Answer<'static>, Trouble> {
         let plan = self.draft.plan()?;
-        let feed = source.feed(&self.draft.lower_plan()?);
-        let opened = Host::open(&plan, feed, policy, reading);
-        let verdict = opened.check();
-        if let Some(before) = self.opened.replace(opened) {
-            before.close();
+        let lower = self.draft.lower_plan()?;
+        match &mut self.opened {
+            Some(host) => {
+                host.reopen(&plan, source.feed(&lower), policy, reading);
+                host.check()?;
+            }
+            None => self.open_first(&plan, &lower, policy, source, reading)?,
         }
-        verdict?;
         Ok(Answer::Done)
     }
 

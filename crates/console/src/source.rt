@@ -24,6 +24,19 @@ pub enum Source {
     },
 }
 
+// A lower box over a capture, as a feed. Out of line: a function pays at its entry for all that it keeps on the
+// stack, and here that is two boxes.
+#[inline(never)]
+fn lower_box<'a>(
+    port: Port,
+    plan: &Plan,
+    bytes: &'a [u8],
+    policy: AnyPolicy,
+    reading: u64,
+) -> AnyFeed<'a> {
+    AnyFeed::stacked(Stacked::open(port, plan, Recorded::over(bytes), policy, reading))
+}
+
 impl Source {
     // The feed that the next words name.
     pub fn read(words: &mut Words) -> Result<Source, Reason> {
@@ -59,13 +72,7 @@ impl Source {
                 policy,
                 bytes,
                 reading,
-            } => AnyFeed::stacked(Stacked::open(
-                *port,
-                lower,
-                Recorded::over(bytes.as_slice()),
-                *policy,
-                *reading,
-            )),
+            } => lower_box(*port, lower, bytes.as_slice(), *policy, *reading),
         }
     }
 }
