@@ -20,11 +20,6 @@ impl Present {
             *present = true;
         }
     }
-
-    // Whether no port is here.
-    pub fn is_none(&self) -> bool {
-        !self.ports.contains(&true)
-    }
 }
 
 impl fmt::Display for Present {

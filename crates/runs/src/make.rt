@@ -124,8 +124,8 @@ impl<F: Feed, P: Policy> Host<F, P> {
         })
     }
 
-    // Makes one call, and answers the entry of a journal. Each buffer is new, and as long as the call says.
-    // Without memory for it the call is not made.
+    // Makes one call, and answers the entry of a journal, as with a new buffer of the length that the call says;
+    // no more of it is made than the call can use. Without memory for it the call is not made.
     pub fn make<'a>(&mut self, heap: Global, call: Call<'a>) -> Result<Entry<'a>, AllocError>
         ensures entry { IfOk result (λ e. entry_of e ≡ due (standing self.old) (request_of call.entry)) }
         ensures next { IfOk result (λ e. standing self.new ≡ leaves (standing self.old) (request_of call.entry)) }

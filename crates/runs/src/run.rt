@@ -28,7 +28,7 @@ impl<F: Feed, P: Policy> Host<F, P> {
         ensures goes_on { IfOk result (λ journal. (o : Opening) (before : Journal) → Reached o before (standing self.old) → Reached o (onto before (events_of (entries_of journal))) (standing self.new)) }
         ensures err { OnErr result (LeftBySome (standing self.old) calls.now (standing self.new)) }
     {
-        // of the length that it will have: a list of a call or two is made for each slot
+        // as long as it will be, so that it is made once
         let mut journal = Vec::with_capacity(heap, calls.len())?;
         for call in calls {
             let entry = self.make(heap, *call)?;
