@@ -9,15 +9,15 @@ use concentrator::{EARLIEST, LONGEST_STEP};
 use feed::{Feed, LONGEST_FRAME};
 use plan::Plan;
 use policy::Policy;
-use runs::{Call, Entry, Host};
+use runs::{Call, Entry, Host, PulledFrame};
 use std::alloc::Global;
 
 // The longest time without a record that is played, in microseconds: a day.
 const LONGEST_GAP: u64 = 86_400_000_000;
 
-// More than the calls that can be due between two ticks: 60 seconds have at most 7,200 slots, and a
-// capture at most 5,500 records.
-const MOST_CALLS: u32 = 40_000;
+// More than the calls that can be due between two ticks, two for each slot and for each frame: 60 seconds have
+// at most 7,200 slots, of which each of two boxes below can have a frame, and a capture at most 5,500 records.
+const MOST_CALLS: u32 = 80_000;
 
 // A host that is prompt: it writes each slot as soon as a tick or a pull has closed it.
 pub struct Player<'a, F: Feed> {
@@ -48,52 +48,79 @@ impl<'a, F: Feed> Player<'a, F> {
         }
     }
 
-    // Reports the entry of a call. Answers whether frames may wait after it.
-    fn report(&mut self, rt: &impl Print, entry: Entry) -> anyhow::Result<bool> {
+    // Reports the entry of a call.
+    fn report(&mut self, rt: &impl Print, entry: &Entry) -> anyhow::Result<()> {
         match entry {
             Entry::Tick {
                 reading,
-                answer,
+                answer: Ok(()),
                 ..
             } => {
-                answer.context("refused")?;
-                self.clock = reading;
+                self.clock = *reading;
+                Ok(())
             }
+            Entry::Write {
+                ticket,
+                answer: Ok(frame),
+                ..
+            } => self.report.written(
+                rt,
+                WrittenSlot {
+                    slot: *ticket,
+                    reading: self.clock,
+                    frame: frame.as_slice(),
+                },
+            ),
+            Entry::Pull {
+                answer: Ok(pulled),
+                ..
+            } => self.report.pulled(rt, self.clock, pulled),
             Entry::Pull {
                 answer: Err(Fault::NothingWaits),
                 ..
-            } => return Ok(false),
-            Entry::Pull { answer, .. } => {
-                let pulled = answer.context("refused")?;
-                self.report.pulled(rt, self.clock, &pulled)?;
+            } => Ok(()),
+            Entry::Tick {
+                answer: Err(fault),
+                ..
             }
-            Entry::Write { ticket, answer, .. } => {
-                let frame = answer.context("refused")?;
-                self.report.written(
-                    rt,
-                    WrittenSlot {
-                        slot: ticket,
-                        reading: self.clock,
-                        frame: frame.as_slice(),
-                    },
-                )?;
+            | Entry::Write {
+                answer: Err(fault),
+                ..
             }
-            _ => {}
+            | Entry::Pull {
+                answer: Err(fault),
+                ..
+            } => Err(*fault).context("refused"),
+            _ => Ok(()),
         }
-        Ok(true)
     }
 
-    // Makes a call, reports it, and takes. The call that is due then: slots that are closed are written before
-    // a frame is pulled, and frames are pulled until none waits. One at a time: a journal for each two of them
-    // costs as much as the slot that they write.
-    fn make(&mut self, rt: &impl Print, call: Call) -> anyhow::Result<Option<Call<'static>>> {
+    // The call that is due after another, if any: slots that are closed are written before a frame is pulled,
+    // and frames are pulled while one may wait. A frame that is refused closes no slot.
+    fn due_after(&self, entry: &Entry) -> Option<Call<'static>> {
         let room = LONGEST_FRAME;
-        let entry = self.host.make(self.heap, call)?;
-        let may_wait = self.report(rt, entry)?;
-        Ok(match self.host.make(self.heap, Call::Take)? {
-            Entry::Take { answer: Ok(ticket) } => Some(Call::Write { ticket, room }),
-            _ => may_wait.then_some(Call::Pull { room }),
-        })
+        match entry {
+            Entry::Take { answer: Ok(ticket) } => Some(Call::Write {
+                ticket: *ticket,
+                room,
+            }),
+            Entry::Tick { .. }
+            | Entry::Write { .. }
+            | Entry::Pull {
+                answer: Ok(
+                    PulledFrame {
+                        verdict: Ok(()),
+                        ..
+                    },
+                ),
+                ..
+            } => Some(Call::Take),
+            Entry::Take { answer: Err(_) } | Entry::Pull { answer: Ok(_), .. } => self
+                .report
+                .may_wait(self.clock)
+                .then_some(Call::Pull { room }),
+            _ => None,
+        }
     }
 
     // Ticks, and makes the calls that are due then.
@@ -105,7 +132,9 @@ impl<'a, F: Feed> Player<'a, F> {
             let Some(call) = due else {
                 return Ok(());
             };
-            due = self.make(rt, call)?;
+            let entry = self.host.make(self.heap, call)?;
+            self.report(rt, &entry)?;
+            due = self.due_after(&entry);
         }
         bail!("more calls are due after a tick than can be")
     }

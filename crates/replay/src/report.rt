@@ -18,13 +18,25 @@ use std::alloc::Global;
 use std::collections::BTreeMap;
 
 // Where the frames come from that a concentrator pulls. An own enum, since a `None` would not say that boxes
-// stand below; a trait for the two would have two methods of a line or two in each.
+// stand below; a trait for the two would have three methods of a line or two in each.
 #[derive(Clone, Copy)]
 pub enum Source<'a> {
     // The records of a capture, in their order.
     Records(&'a [Record<'a>]),
     // The combined streams of boxes below.
     Boxes,
+}
+
+impl Source<'_> {
+    // Whether a frame may wait at a reading, behind so many that were pulled. Boxes below do not tell.
+    fn may_wait(self, pulled: usize, reading: u64) -> bool {
+        match self {
+            Source::Records(records) => records
+                .get(pulled)
+                .is_some_and(|record| record.reading <= reading),
+            Source::Boxes => true,
+        }
+    }
 }
 
 // Prints what a concentrator takes and writes.
@@ -109,6 +121,23 @@ impl<'a> Report<'a> {
         }
     }
 
+    // Notes the frame of a record that was accepted. Out of line, as are the other two that tell of a frame, since
+    // a function pays at its entry for all that it keeps on the stack, and a dump tells of no refused frame.
+    #[inline(never)]
+    fn record_accepted(&mut self, pulled: &PulledFrame) -> anyhow::Result<()> {
+        let slot = slot_of(self.plan, pulled.port, pulled.frame.as_slice()).context("refused")?;
+        self.accept(slot, pulled.port)
+    }
+
+    // Tells of the frame of a record that was refused.
+    #[inline(never)]
+    fn record_refused(&mut self, rt: &impl Print, line: Port, fault: Fault) -> anyhow::Result<()> {
+        self.table.flush(rt)?;
+        let number = self.pulled;
+        println!(rt; "record {number} of line {line} refused: {fault}")?;
+        Ok(())
+    }
+
     // Tells of the frame of a record, if it was refused.
     fn record_pulled(
         &mut self,
@@ -116,25 +145,15 @@ impl<'a> Report<'a> {
         line: Port,
         pulled: &PulledFrame,
     ) -> anyhow::Result<()> {
-        match pulled.verdict {
-            Ok(()) => {
-                let slot = slot_of(self.plan, pulled.port, pulled.frame.as_slice()).context(
-                    "refused",
-                )?;
-                self.accept(slot, pulled.port)
-            }
-            Err(fault) => {
-                if let Output::Table = self.output {
-                    self.table.flush(rt)?;
-                    let number = self.pulled;
-                    println!(rt; "record {number} of line {line} refused: {fault}")?;
-                }
-                Ok(())
-            }
+        match (pulled.verdict, self.output) {
+            (Ok(()), _) => self.record_accepted(pulled),
+            (Err(fault), Output::Table) => self.record_refused(rt, line, fault),
+            (Err(_), Output::Hex) => Ok(()),
         }
     }
 
     // Tells of the frame of a box below. One that no line of the box has filled counts as no port.
+    #[inline(never)]
     fn box_pulled(
         &mut self,
         rt: &impl Print,
@@ -157,6 +176,11 @@ impl<'a> Report<'a> {
             self.accept(slot, pulled.port)?;
         }
         self.show(rt, written, whose, unfilled)
+    }
+
+    // Whether a frame may wait at a reading.
+    pub fn may_wait(&self, reading: u64) -> bool {
+        self.source.may_wait(self.pulled, reading)
     }
 
     // Tells what became of a frame that was pulled at a reading.
