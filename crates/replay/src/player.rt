@@ -15,8 +15,9 @@ use std::alloc::Global;
 // The longest time without a record that is played, in microseconds: a day.
 const LONGEST_GAP: u64 = 86_400_000_000;
 
-// More than the calls that can be due between two ticks, two for each slot and for each frame: 60 seconds have
-// at most 7,200 slots, of which each of two boxes below can have a frame, and a capture at most 5,500 records.
+// More than the calls that can be due between two ticks, two for each slot (take, write) and for each frame
+// (pull, take): 60 seconds have at most 7,200 slots, of which each of two boxes below can have a frame, and a
+// capture at most 5,500 records.
 const MOST_CALLS: u32 = 80_000;
 
 // A host that is prompt: it writes each slot as soon as a tick or a pull has closed it.
@@ -95,8 +96,8 @@ impl<'a, F: Feed> Player<'a, F> {
         }
     }
 
-    // The call that is due after another, if any: slots that are closed are written before a frame is pulled,
-    // and frames are pulled while one may wait. A frame that is refused closes no slot.
+    // The call that is due after that of an entry, if any: slots that are closed are written before a frame is
+    // pulled, and frames are pulled while one may wait. A frame that is refused closes no slot.
     fn due_after(&self, entry: &Entry) -> Option<Call<'static>> {
         let room = LONGEST_FRAME;
         match entry {

@@ -28,7 +28,7 @@ pub enum Source<'a> {
 }
 
 impl Source<'_> {
-    // Whether a frame may wait at a reading, behind so many that were pulled. Boxes below do not tell.
+    // Whether a frame may wait at a reading, once so many were pulled. Of boxes below only a pull tells.
     fn may_wait(self, pulled: usize, reading: u64) -> bool {
         match self {
             Source::Records(records) => records
@@ -121,8 +121,9 @@ impl<'a> Report<'a> {
         }
     }
 
-    // Notes the frame of a record that was accepted. Out of line, as are the other two that tell of a frame, since
-    // a function pays at its entry for all that it keeps on the stack, and a dump tells of no refused frame.
+    // Notes the frame of a record that was accepted. Out of line, as are `record_refused` and `box_pulled`: a
+    // function pays at its entry for all that it keeps on the stack, and `pulled` pays for none of the three where
+    // a dump passes over a frame that was refused.
     #[inline(never)]
     fn record_accepted(&mut self, pulled: &PulledFrame) -> anyhow::Result<()> {
         let slot = slot_of(self.plan, pulled.port, pulled.frame.as_slice()).context("refused")?;
@@ -138,7 +139,7 @@ impl<'a> Report<'a> {
         Ok(())
     }
 
-    // Tells of the frame of a record, if it was refused.
+    // Notes the frame of a record that was accepted; of one that was refused the table tells.
     fn record_pulled(
         &mut self,
         rt: &impl Print,
