@@ -49,7 +49,8 @@ impl<'a, F: Feed> Player<'a, F> {
         }
     }
 
-    // Reports the entry of a call.
+    // Reports the entry of a call: the clock goes on with a tick, what was pulled or written is shown, and a
+    // refusal ends the play. That nothing waits is none.
     fn report(&mut self, rt: &impl Print, entry: &Entry) -> anyhow::Result<()> {
         match entry {
             Entry::Tick {

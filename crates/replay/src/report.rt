@@ -179,7 +179,7 @@ impl<'a> Report<'a> {
         self.show(rt, written, whose, unfilled)
     }
 
-    // Whether a frame may wait at a reading.
+    // Whether to pull at a reading: always from boxes below, else if the next record is due.
     pub fn may_wait(&self, reading: u64) -> bool {
         self.source.may_wait(self.pulled, reading)
     }
